@@ -1,0 +1,5 @@
+pub mod Numbers
+pub mod Zeros
+pub mod Reading
+pub mod HeadLaws
+pub mod PageLaws

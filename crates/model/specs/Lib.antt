@@ -1,0 +1,4 @@
+pub mod Refusals
+pub mod Store
+pub mod Outcome
+pub mod Format

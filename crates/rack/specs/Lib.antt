@@ -1,0 +1,4 @@
+pub mod Meaning
+pub mod Cut
+pub mod Answers
+pub mod Shapes

@@ -1,0 +1,5 @@
+pub mod Splits
+pub mod Upon
+pub mod Figures
+pub mod Names
+pub mod Writing
