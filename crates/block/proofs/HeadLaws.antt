@@ -1,14 +1,15 @@
 -- The block of a head.
-use mathlib.Core.Path.{_≡_, sym, ap, _∙_}
+use mathlib.Core.Path.{_≡_, refl}
 use mathlib.Core.List.{List, _++_}
 use Prim.Native.Nat.{ℕ, _≤_}
 use native.Mathlib.Omega.{arith}
-use lib.ListN.{length, getD, drop}
+use lib.ListN.{length, drop}
 use Rattle.block.specs.Bytes.{bytes2, bytes4, at2, at4}
 use Rattle.block.specs.Heads.{HeadOk, headBlock, headOf, HeadShaped}
 use Rattle.block.specs.declared.Head.{Head}
 use Rattle.block.proofs.Numbers.{at2-bytes2, at4-bytes4, bytesFrom, drop-bytesFrom, AllBytes, bytes2-at2, bytes4-at4, at2-fits, at4-fits}
 use Rattle.block.proofs.Zeros.{length-zeros, tail-is-zeros, zero-tail}
+use Rattle.block.proofs.Reading.{Layout}
 
 pub length-headBlock : (h : Head) → length (headBlock h) ≡ 512
 unfolding headBlock
@@ -27,22 +28,12 @@ headOf-headBlock h ok =
     let e : make (at2 (bytes2 (h .pages)) 0) (at4 (bytes4 (h .round)) 0) (at2 (bytes2 (h .logs)) 0) ≡ make (h .pages) (h .round) (h .logs) = cc in
     e
 
--- each block of a head has the shape, and a round
-pub head-shaped : (h : Head) (b : List ℕ) → headBlock h ≡ b → HeadShaped b
+head-shaped : (h : Head) → HeadShaped (headBlock h)
 unfolding headBlock
-head-shaped h b e = record {
-  first = ap (λ z. getD z 0 0) (sym e);
-  second = ap (λ z. getD z 1 0) (sym e);
-  rest = zero-tail b 10 512 (ap length (sym e) ∙ simp length-zeros) (ap (drop 10) (sym e));
-}
-
-pub head-begun : (h : Head) (b : List ℕ) → HeadOk h → headBlock h ≡ b → 1 ≤ headOf b .round
-head-begun h b ok e =
-    let r : headOf b .round ≡ h .round = ap (λ z. headOf z .round) (sym e) ∙ ap (λ z. z .round) (headOf-headBlock h ok) in
-    omega arith
+head-shaped h = record { first = refl; second = refl; rest = zero-tail (headBlock h) 10 512 (simp length-zeros) refl }
 
 -- writing what was read
-pub headBlock-headOf : (b : List ℕ) → length b ≡ 512 → AllBytes b → HeadShaped b → headBlock (headOf b) ≡ b
+headBlock-headOf : (b : List ℕ) → length b ≡ 512 → AllBytes b → HeadShaped b → headBlock (headOf b) ≡ b
 unfolding headBlock
 headBlock-headOf b l small s =
     let t = tail-is-zeros b 10 512 l (s .rest) in
@@ -55,3 +46,11 @@ headBlock-headOf b l small s =
 -- what stands in a block of bytes fits
 pub headOf-ok : (b : List ℕ) → AllBytes b → 1 ≤ headOf b .round → HeadOk (headOf b)
 headOf-ok b small begun = record { begun = begun; pages = at2-fits b 2 small; round = at4-fits b 4 small; logs = at2-fits b 8 small }
+
+pub heads : Layout HeadOk headBlock headOf HeadShaped
+heads = record {
+  long = λ h ok. length-headBlock h;
+  back = headOf-headBlock;
+  shaped = λ h ok. head-shaped h;
+  forth = λ b l small s ok. headBlock-headOf b l small s;
+}

@@ -2,4 +2,5 @@ pub mod Numbers
 pub mod Zeros
 pub mod Reading
 pub mod HeadLaws
+pub mod CommitLaws
 pub mod PageLaws

@@ -1,11 +1,12 @@
 -- Numbers as bytes: reading what was written, and writing what was read.
-use mathlib.Core.Path.{_≡_, refl, ap, _∙_}
+use mathlib.Core.Path.{_≡_, refl, sym, ap, _∙_}
 use mathlib.Core.List.{List, [], _∷_, _++_}
-use Prim.Native.Nat.{ℕ, zero, suc, _+_, _*_, _<_, _≤_, _/_, _%_, _^_}
+use Prim.Native.Nat.{ℕ, zero, suc, _+_, _-_, _*_, _<_, _≤_, _/_, _%_, _^_}
 use native.Mathlib.Omega.{arith}
 use lib.ListN.{length, getD, drop}
 use Rattle.std.proofs.shelf.Bits.{shr-shr, div-add-mod', mod-mul-add, div-mul-add}
-use Rattle.std.proofs.shelf.Lists.{drop-more}
+use Rattle.std.proofs.shelf.Lists.{drop-more, drop-drop, take-append-drop}
+use Rattle.std.specs.shelf.Lists.{between}
 use Rattle.block.specs.Bytes.{bytes2, bytes4, at2, at4}
 
 pub at2-bytes2 : (n : ℕ) → n < 2 ^ 16 → at2 (bytes2 n) 0 ≡ n
@@ -34,6 +35,12 @@ drop-bytesFrom b i zero h = ap (λ k. drop k b) (omega arith)
 drop-bytesFrom b i (suc n) h =
     let e : i + 1 + n ≡ i + suc n = omega arith in
     drop-more b i 0 (omega arith) ∙ ap (λ r. getD b i 0 ∷ r) (drop-bytesFrom b (i + 1) n (omega arith) ∙ ap (λ k. bytesFrom b (i + 1) n ++ drop k b) e)
+
+-- the bytes of b from place i up to place j, and those behind
+pub drop-between : (b : List ℕ) (i j : ℕ) → i ≤ j → drop i b ≡ between i j b ++ drop j b
+drop-between b i j h =
+    let e : i + (j - i) ≡ j = omega arith in
+    sym (take-append-drop (j - i) (drop i b)) ∙ ap (λ r. between i j b ++ r) (drop-drop (j - i) i b ∙ ap (λ k. drop k b) e)
 
 -- the low byte of a number, and the rest
 low : (a m n : ℕ) → a < 256 → n ≡ a + m * 256 → (n % 256 ≡ a) × (n / 256 ≡ m)
@@ -67,6 +74,10 @@ bytes2-at2 b i small = two _ _ (small i) (small (i + 1))
 
 pub bytes4-at4 : (b : List ℕ) (i : ℕ) → AllBytes b → bytes4 (at4 b i) ≡ getD b i 0 ∷ getD b (i + 1) 0 ∷ getD b (i + 2) 0 ∷ getD b (i + 3) 0 ∷ []
 bytes4-at4 b i small = four _ _ _ _ (small i) (small (i + 1)) (small (i + 2)) (small (i + 3))
+
+-- a number of one byte in four
+pub bytes4-low : (n : ℕ) → n < 256 → bytes4 n ≡ n ∷ 0 ∷ 0 ∷ 0 ∷ []
+bytes4-low n h = ap bytes4 (omega arith) ∙ four n 0 0 0 h (omega arith) (omega arith) (omega arith)
 
 pub at2-fits : (b : List ℕ) (i : ℕ) → AllBytes b → at2 b i < 2 ^ 16
 at2-fits b i small = omega (arith, small i, small (i + 1))

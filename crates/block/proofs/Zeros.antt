@@ -1,6 +1,6 @@
 -- Laws of `zeros`.
-use mathlib.Core.Path.{_≡_, sym, ap, _∙_}
-use mathlib.Core.List.{List, _++_}
+use mathlib.Core.Path.{_≡_, refl, sym, ap, _∙_}
+use mathlib.Core.List.{List, [], _∷_, _++_}
 use Prim.Native.Nat.{ℕ, _+_, _-_, _<_, _≤_}
 use native.Mathlib.Omega.{arith}
 use lib.ListN.{length, getD, take, drop}
@@ -30,6 +30,11 @@ pub zeros-join : (m n : ℕ) → zeros m ++ zeros n ≡ zeros (m + n)
 unfolding zeros
 zeros-join m n = replicate-append-replicate m n 0
 
+-- the high bytes of a small number in four bytes
+pub three-zeros : 0 ∷ 0 ∷ 0 ∷ [] ≡ zeros 3
+unfolding zeros
+three-zeros = refl
+
 -- bytes are zeros exactly where each of them is zero
 pub zeros-from : (xs : List ℕ) (n : ℕ) → length xs ≡ n → AllZero xs → xs ≡ zeros n
 zeros-from xs n e h = ext-getD 0 xs (zeros n) (e ∙ sym (length-zeros n)) (λ i l. h i l ∙ sym (getD-zeros n i (omega arith)))
@@ -44,11 +49,14 @@ over-zeros n front part e =
     let k : length front - 0 ≡ length front = omega arith in
     cc
 
+-- the bytes from m on up to n, as a reader looks at them in `&block[m..n]`
+pub part-is-zeros : (b : List ℕ) (m n : ℕ) → n ≤ length b → AllZero (between m n b) → between m n b ≡ zeros (n - m)
+part-is-zeros b m n l h = zeros-from (between m n b) (n - m) (length-between b m n l) h
+
 -- the bytes behind the first m, as a reader looks at them in `&block[m..n]`
 pub tail-is-zeros : (b : List ℕ) (m n : ℕ) → length b ≡ n → AllZero (between m n b) → drop m b ≡ zeros (n - m)
 tail-is-zeros b m n l h =
-    let t = between-to-end b m n (omega arith) in
-    sym t ∙ zeros-from (between m n b) (n - m) (length-between b m n (omega arith)) h
+    sym (between-to-end b m n (omega arith)) ∙ part-is-zeros b m n (omega arith) h
 
 pub zero-tail : (b : List ℕ) (m n : ℕ) → length b ≡ n → drop m b ≡ zeros (n - m) → AllZero (between m n b)
 zero-tail b m n l e = zero-each (between m n b) (n - m) (between-to-end b m n (omega arith) ∙ e)

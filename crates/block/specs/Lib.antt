@@ -1,3 +1,4 @@
 pub mod Bytes
 pub mod Heads
+pub mod Commits
 pub mod Pages

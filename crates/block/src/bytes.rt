@@ -2,24 +2,38 @@
 ghost use mathlib.Core.Path.{_≡_};
 ghost use mathlib.Core.List.{_++_};
 ghost use Prim.Native.Nat.{_+_, _-_, _≤_};
-ghost use lib.ListN.{length, take};
+ghost use lib.ListN.{length, getD, take};
 ghost use Rattle.std.specs.Orderings.{Decides};
 ghost use Rattle.block.specs.Bytes.{at2, at4, zeros, AllZero};
 
-// The number of two bytes that stands at a place.
-pub(crate) fn word(block: &[u8], at: usize) -> u16
-    requires { ⌜ at + 2 ≤ length (now block) ⌝ }
-    ensures { λ r. ⌜ r ≡ at2 (now (block .entry)) at ⌝ }
+// The byte that stands some places on from a place. Bytes past the end count as zero.
+fn byte(bytes: &[u8], at: usize, on: usize) -> u8
+    ensures { λ r. ⌜ r ≡ getD (now (bytes .entry)) (at + on) 0 ⌝ }
 {
-    u16::from_le_bytes([block[at], block[at + 1]])
+    if at < bytes.len() && on < bytes.len() - at {
+        bytes[at + on]
+    } else {
+        0
+    }
 }
 
-// The number of four bytes that stands at a place.
-pub(crate) fn quad(block: &[u8], at: usize) -> u32
-    requires { ⌜ at + 4 ≤ length (now block) ⌝ }
-    ensures { λ r. ⌜ r ≡ at4 (now (block .entry)) at ⌝ }
+// The number of two bytes that stands at a place. Bytes past the end count as zero.
+pub fn word(bytes: &[u8], at: usize) -> u16
+    ensures { λ r. ⌜ r ≡ at2 (now (bytes .entry)) at ⌝ }
 {
-    u32::from_le_bytes([block[at], block[at + 1], block[at + 2], block[at + 3]])
+    u16::from_le_bytes([byte(bytes, at, 0), byte(bytes, at, 1)])
+}
+
+// The number of four bytes that stands at a place. Bytes past the end count as zero.
+pub fn quad(bytes: &[u8], at: usize) -> u32
+    ensures { λ r. ⌜ r ≡ at4 (now (bytes .entry)) at ⌝ }
+{
+    u32::from_le_bytes([
+        byte(bytes, at, 0),
+        byte(bytes, at, 1),
+        byte(bytes, at, 2),
+        byte(bytes, at, 3),
+    ])
 }
 
 // Whether each byte of the part is zero.

@@ -11,12 +11,14 @@ ghost use Rattle.block.specs.Bytes.{ReadsBack};
 ghost use Rattle.block.specs.Heads.{HeadOk, headFront, headBlock, headOf, HeadShaped};
 ghost use Rattle.block.specs.Pages.{pageBlock, pageContent, GivesBack};
 use crate::bytes::padded;
-use crate::bytes::quad;
-use crate::bytes::word;
 
 mod bytes;
+mod commits;
 
 pub use bytes::is_zero;
+pub use bytes::quad;
+pub use bytes::word;
+pub use commits::Commit;
 
 // The head of a store: how many pages it has, the round that it is in, and how many log drives there
 // are.

@@ -1,0 +1,5 @@
+pub mod Parts
+pub mod PairLists
+pub mod PairCodec
+pub mod ChangeLaws
+pub mod ReadLaws

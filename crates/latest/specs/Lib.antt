@@ -1,0 +1,3 @@
+pub mod Order
+pub mod Latest
+pub mod Stamps
