@@ -4,3 +4,4 @@ pub mod Reading
 pub mod HeadLaws
 pub mod CommitLaws
 pub mod PageLaws
+pub mod ReadAs

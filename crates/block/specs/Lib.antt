@@ -2,3 +2,4 @@ pub mod Bytes
 pub mod Heads
 pub mod Commits
 pub mod Pages
+pub mod Readings

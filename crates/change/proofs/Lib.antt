@@ -3,3 +3,4 @@ pub mod PairLists
 pub mod PairCodec
 pub mod ChangeLaws
 pub mod ReadLaws
+pub mod ReadAs

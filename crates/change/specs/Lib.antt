@@ -1,3 +1,4 @@
 pub mod Pairs
 pub mod Changes
 pub mod Edits
+pub mod Readings

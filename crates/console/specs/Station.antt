@@ -4,7 +4,7 @@
 --   lineIn bs           a line as it is read, without the newline that ends it
 --   named n             the drive, block or page count that a number names: one above 65,535 names nothing, as 65,535 does
 --   finished r          the answer where a call of the rack gave r
---   replied r           the answer where a call of the store replied r
+--   told r              the answer where a call of the store gave r
 --   blockAnswer m d b   the answer to `block`: what block b of drive d of the rack m holds
 --   Builds n sizes r    `rack` is a new rack of these sizes with n strokes left, or refused where there can be none
 --   Formats p k r j     `format` is the store's own format of p pages, on the rack that keeps k and then j
@@ -30,7 +30,7 @@ use Rattle.memory_rack.specs.Memory.{Kept, keptIn, fitting, shown, pokeFault, p
 use Rattle.model.specs.declared.Refusal.{Refusal}
 use Rattle.model.specs.Refusals.{refusalNumber}
 use Rattle.model.specs.Store.{cold}
-use Rattle.model.specs.Outcome.{Reply, refused, done, Does}
+use Rattle.model.specs.Outcome.{Does, replyOf}
 use Rattle.model.specs.Format.{formatting}
 use Rattle.script.specs.Commands.{Said, rack, format, left, block, poke, tear, stop}
 use Rattle.script.specs.declared.answers.Answer.{Answer}
@@ -53,9 +53,9 @@ abbrev pub finished : Result (Unit {0}) RackFault → Answer
 finished (Ok u) = Done
 finished (Err f) = Refused (faultNumber f)
 
-abbrev pub replied : Reply → Answer
-replied done = Done
-replied (refused f) = Refused (refusalNumber f)
+abbrev pub told : Result (Unit {0}) Refusal → Answer
+told (Ok u) = Done
+told (Err f) = Refused (refusalNumber f)
 
 -- the bytes of a block, or 33 where it cannot be read
 abbrev pub valueAnswer : Option Value → Answer
@@ -75,9 +75,9 @@ Builds n sizes (Build shape strokes) = CanBuild sizes × HoldsSizes sizes shape 
 Builds n sizes (Say a) = (CanBuild sizes → ⊥) × (a ≡ Refused 36)
 
 pub record Formats (p : ℕ) (k : Kept) (r : Answer) (j : Kept) : Type 0 where
-  pub reply : Reply
-  pub does : Does (formatting p (shown k)) cold (shown k) reply cold (shown j)
-  pub says : r ≡ replied reply
+  pub result : Result (Unit {0}) Refusal
+  pub does : Does (formatting p (shown k)) cold (shown k) (replyOf result) cold (shown j)
+  pub says : r ≡ told result
 
 abbrev pub Obeys : Said → Kept → Step → Kept → Type 0
 Obeys (rack n sizes) k r j = Builds n sizes r × (j ≡ k)

@@ -9,8 +9,7 @@ ghost use Rattle.rack.specs.Answers.{answer};
 ghost use Rattle.std.specs.Results.{Cases};
 ghost use Rattle.script.specs.Commands.{said, commandIn};
 ghost use Rattle.memory_rack.specs.Memory.{keptIn, shown, fresh};
-ghost use Rattle.model.specs.Outcome.{replyOf};
-ghost use Rattle.console.specs.Station.{Opens, lineIn, named, finished, replied, blockAnswer, Builds, Formats, Obeys, Steps};
+ghost use Rattle.console.specs.Station.{Opens, lineIn, named, finished, told, blockAnswer, Builds, Formats, Obeys, Steps};
 use memory_rack::InMemory;
 use memory_rack::MemoryRack;
 use model::Refusal;
@@ -55,7 +54,7 @@ fn finish(result: Result<(), RackFault>) -> Answer
 
 // The answer to a call of the store.
 fn reply(result: Result<(), Refusal>) -> Answer
-    ensures { λ r. ⌜ r ≡ replied (replyOf result) ⌝ }
+    ensures { λ r. ⌜ r ≡ told result ⌝ }
 {
     match result {
         Ok(()) => Answer::Done,

@@ -3,7 +3,7 @@ use mathlib.Core.Path.{_≡_, refl}
 use mathlib.Core.List.{List, []}
 use mathlib.Core.Bool.{Bool, true, false, cond}
 use Prim.Native.Nat.{ℕ, zero, suc, _<_, _≤_}
-use lib.Dec.{leb}
+use lib.Dec.{leb, leb·zero}
 use lib.ListN.{length, take}
 use Rattle.std.proofs.shelf.Lists.{take-all}
 use Rattle.std.proofs.shelf.Tests.{leb-true}
@@ -41,3 +41,15 @@ all-strokes plan m n p y =
     let d = done-from-plays plan m None n p y in
     let h : length plan ≤ m .left = leb-true _ _ (enough-from (leb (length plan) (m .left)) (d .answers)) in
     (h, rw (take-all (m .left) plan h) at (d .leaves))
+
+take-none : (k : ℕ) (m : Meaning) → Strokes (take k []) m m
+unfolding Strokes
+take-none zero m = refl
+take-none (suc k) m = refl
+
+-- a call without strokes that does not refuse
+pub does-still : (o : Outcome) (s : Store) (m : Meaning) (r : Reply) (t : Store) → o .fault ≡ None → o .plan ≡ [] → r ≡ o .reply → t ≡ o .good → Does o s m r t m
+unfolding Strokes
+does-still o s m r t e p q u =
+    let none : leb (length (o .plan)) (m .left) ≡ true = rw p (leb·zero (m .left)) in
+    record { replies = rw (e, none) q; becomes = rw (e, none) u; leaves = rw (e, p) (take-none (m .left) m) }

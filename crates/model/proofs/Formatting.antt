@@ -60,18 +60,18 @@ wipes-off-drive z d (suc n) e b h =
 -- the rack m has the drives of the shape z
 pub record Has (z : Shape) (m : Meaning) : Type 0 where
   pub logs : z .logs < m .count
-  pub blocks : (d : ℕ) → m .size d ≡ z .blocks d
+  pub blocks : (d : ℕ) → d < m .count → m .size d ≡ z .blocks d
 
 has-alike : (z : Shape) (m k : Meaning) → Alike m k → Has z m → Has z k
-has-alike z m k a h = record { logs = rw (a .count) (h .logs); blocks = λ d. a .size d ∙ h .blocks d }
+has-alike z m k a h = record { logs = rw (a .count) (h .logs); blocks = λ d p. a .size d ∙ h .blocks d (rw (a .count) at p) }
 
 -- the first of the wipes
 wipe-stands : (z : Shape) (d n : ℕ) (m j k : Meaning) → Has z m → d ≤ z .logs → Strokes (wipe (z .blocks) d) m j → Strokes (wipes (z .blocks) (suc d) n) j k →
     (b : ℕ) → b < z .blocks d → Stands k d b (zeros 512)
 unfolding Elsewhere
 wipe-stands z d n m j k h g x y b r =
-    let t = h .blocks d in
     let l = h .logs in
+    let t = h .blocks d (omega arith) in
     let in-drives : d < m .count = omega arith in
     let stood = run-stands d 0 (z .blocks d) (zeros 512) m j [] in-drives (omega arith) x b (omega arith) (omega arith) tt in
     let a = alike-strokes (wipe (z .blocks) d) m j x in
@@ -141,9 +141,9 @@ module _ (z : Shape) (m n : Meaning) (has : Has z m) (room : z .pages < z .block
   unfolding Elsewhere
   formatted-log d b low high in-log =
       let l₁ = has-wiped .logs in
-      let t₁ = has-wiped .blocks d in
+      let t₁ = has-wiped .blocks d (omega arith) in
       let l₂ = has-blanked .logs in
-      let t₂ = has-blanked .blocks d in
+      let t₂ = has-blanked .blocks d (omega arith) in
       let away = elsewhere-append (run 0 1 (z .pages) (pageBlock (zeros 240))) (Flush 0 ∷ []) d b (run-off-drive 0 1 (z .pages) (pageBlock (zeros 240)) d b (λ e. omega arith)) tt in
       let stood = wipes-stand z 1 (z .logs) (p .zeroed) (p .wiped) has-zeroed (omega arith) (p .wiping) d b low (omega arith) in-log in
       let stays = strokes-stand (blankPages (z .pages)) (p .wiped) (p .blanked) d b (zeros 512) (omega arith) (omega arith) away (p .blanking) stood in
@@ -153,9 +153,9 @@ module _ (z : Shape) (m n : Meaning) (has : Has z m) (room : z .pages < z .block
   unfolding Elsewhere
   formatted-page k h =
       let l₁ = has-wiped .logs in
-      let t₁ = has-wiped .blocks 0 in
+      let t₁ = has-wiped .blocks 0 (omega arith) in
       let l₂ = has-blanked .logs in
-      let t₂ = has-blanked .blocks 0 in
+      let t₂ = has-blanked .blocks 0 (omega arith) in
       let stood = run-stands 0 1 (z .pages) (pageBlock (zeros 240)) (p .wiped) (p .blanked) [] (omega arith) (omega arith) (p .blanking) (suc k) (omega arith) (omega arith) tt in
       strokes-stand (headed (headAt z 1)) (p .blanked) n 0 (suc k) (pageBlock (zeros 240)) (omega arith) (omega arith) ((λ e x. omega arith), tt) (p .heading) stood
 
@@ -163,7 +163,7 @@ module _ (z : Shape) (m n : Meaning) (has : Has z m) (room : z .pages < z .block
   unfolding Strokes
   formatted-head =
       let l = has-blanked .logs in
-      let t = has-blanked .blocks 0 in
+      let t = has-blanked .blocks 0 (omega arith) in
       let y = p .heading in
       let c = y .1 .alike .count in
       let s = y .1 .alike .size 0 in
@@ -194,8 +194,8 @@ placed-wipes : (z : Shape) (d n : ℕ) (m : Meaning) → Has z m → d + n ≤ s
 unfolding wipes Placed
 placed-wipes z d zero m h g = tt
 placed-wipes z d (suc n) m h g =
-    let t = h .blocks d in
     let l = h .logs in
+    let t = h .blocks d (omega arith) in
     placed-append (wipe (z .blocks) d) (wipes (z .blocks) (suc d) n) m
     (placed-append (run d 0 (z .blocks d) (zeros 512)) (Flush d ∷ []) m (placed-run d 0 (z .blocks d) (zeros 512) m (length-zeros 512) (omega arith) (omega arith)) (lt-ltb d (m .count) (omega arith), tt))
     (placed-wipes z (suc d) n m h (omega arith))
@@ -203,8 +203,8 @@ placed-wipes z d (suc n) m h g =
 pub placed-format : (z : Shape) (m : Meaning) → Has z m → z .pages < z .blocks 0 → Placed (formatPlan z) m
 unfolding Placed
 placed-format z m h room =
-    let t = h .blocks 0 in
     let l = h .logs in
+    let t = h .blocks 0 (omega arith) in
     let first = placed-headed (zeros 512) m (length-zeros 512) (omega arith) (omega arith) in
     let last = placed-headed (headAt z 1) m (length-headBlock _) (omega arith) (omega arith) in
     let pages = placed-run 0 1 (z .pages) (pageBlock (zeros 240)) m (length-pageBlock (zeros 240) (length-zeros 240)) (omega arith) (omega arith) in
@@ -214,13 +214,13 @@ placed-format z m h room =
     (placed-append (blankPages (z .pages)) (headed (headAt z 1)) m blank last))
 
 -- a legal shape is on its rack, with room for its pages
-pub legal-has : (pages : ℕ) (m : Meaning) → legal (shapeOf pages m) ≡ true → Has (shapeOf pages m) m × (pages < m .size 0)
+pub legal-has : (pages : ℕ) (m : Meaning) → legal (shapeOf pages m) ≡ true → Has (shapeOf pages m) m × (pages < shapeOf pages m .blocks 0) × (pages ≤ 64)
 legal-has pages m e =
     let z = shapeOf pages m in
     let a = and-parts (leb 1 pages) _ e in
     let b = and-parts (leb pages 64) _ (a .1) in
-    let c = and-parts (leb (suc pages) (m .size 0)) _ (b .1) in
+    let c = and-parts (leb (suc pages) (z .blocks 0)) _ (b .1) in
     let d = and-parts (leb 1 (m .count - 1)) _ (c .1) in
     let f = leb-true 1 (m .count - 1) (d .0) in
-    let g = leb-true (suc pages) (m .size 0) (c .0) in
-    (record { logs = omega arith; blocks = λ x. refl }, omega arith)
+    let g = leb-true (suc pages) (z .blocks 0) (c .0) in
+    (record { logs = omega arith; blocks = λ x p. rw (lt-ltb x (m .count) p) }, g, leb-true pages 64 (b .0))

@@ -1,6 +1,6 @@
 -- A call of the store, by its outcome.
 --
---   Reply               what comes back: a refusal or an answer
+--   Reply               what comes back: a refusal, or an answer of nothing, of a number or of two
 --   Outcome             why the call refuses at once, if it does; else the strokes of its plan, what it replies and
 --                       the state it leaves when all of them are made, and the state when strokes run out
 --   made o m            the strokes that a call with the outcome o makes on the rack m: as many of its plan as are left
@@ -9,6 +9,7 @@
 use mathlib.Core.Path.{_≡_}
 use mathlib.Core.List.{List, []}
 use mathlib.Core.Bool.{Bool, cond}
+use Prim.Native.Nat.{ℕ}
 use lib.Dec.{leb}
 use lib.ListN.{length, take}
 use Rattle.std.specs.declared.option.Option.{Option}
@@ -25,6 +26,8 @@ use Rattle.model.specs.Store.{Store}
 pub data Reply : Type 0 where
   refused : Refusal → Reply
   done : Reply
+  number : ℕ → Reply
+  numbers : ℕ → ℕ → Reply
 
 pub record Outcome : Type 0 where
   pub fault : Option Refusal

@@ -2,9 +2,12 @@
 //
 // The code never runs these definitions. The contracts of its calls cite them, so a reader who wants to know what
 // a call does reads them here, in specs/, and holds them against docs/FORMATS.md and docs/REFUSALS.md. What is
-// said above them in the subject's words (what stands after a format) is proved of the same definitions.
+// said above them in the subject's words (what stands after a format) is proved of the same definitions. Beside
+// them stand the refusals, and the one way to read a block.
 ghost use mathlib.Core.Path.{_≡_};
+ghost use Rattle.model.specs.Logs.{valueAt};
 ghost use Rattle.model.specs.Refusals.{refusalNumber};
+use rack::Rack;
 use rack::RackFault;
 use rack::RackFaultDebug;
 
@@ -71,5 +74,16 @@ impl Refusal {
             Refusal::BadLength => 16,
             Refusal::Rack(fault) => fault.number(),
         }
+    }
+}
+
+// What a block of the rack holds, if it can be read.
+pub fn read_block<R: Rack>(rack: &R, drive: u16, block: u16) -> Option<[u8; 512]>
+    ensures { λ r. ⌜ r ≡ valueAt (R·Rack .meaning (now (rack .entry))) drive block ⌝ }
+{
+    let mut bytes = [0; 512];
+    match rack.read(drive, block, &mut bytes) {
+        Ok(()) => Some(bytes),
+        Err(_) => None,
     }
 }

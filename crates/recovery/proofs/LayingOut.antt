@@ -14,7 +14,7 @@ use Rattle.strokes.specs.Plan.{Plays}
 use Rattle.strokes.proofs.Playing.{Onto, onto-none, part-made, part-refused, last-part}
 use Rattle.model.specs.Store.{shapeOf}
 use Rattle.model.specs.Format.{headAt, headed, wipes, blankPages, formatPlan}
-use Rattle.recovery.proofs.Wiping.{wipes-alike}
+use Rattle.recovery.proofs.Wiping.{wipes-shape}
 
 module _ (pages : ℕ) (m : Meaning) where
   abbrev plan : List Stroke
@@ -30,8 +30,11 @@ module _ (pages : ℕ) (m : Meaning) where
   abbrev from-pages : List Stroke
   from-pages = blankPages pages ++ headed new-head
 
+  abbrev planned : List Stroke
+  planned = wipes (shapeOf pages m .blocks) 1 (m .count - 1)
+
   abbrev from-logs : List Stroke
-  from-logs = wiping m ++ from-pages
+  from-logs = planned ++ from-pages
 
   pub stops-zeroing : (k : Meaning) (f : RackFault) → Plays (headed (zeros 512)) m (Some f) k → Plays plan m (Some f) k
   stops-zeroing k f p = part-refused (headed (zeros 512)) plan from-logs m m k f (onto-none plan m) p
@@ -40,15 +43,15 @@ module _ (pages : ℕ) (m : Meaning) where
     onto-logs : Onto plan m from-logs k₁
     onto-logs = part-made (headed (zeros 512)) plan from-logs m m k₁ (onto-none plan m) zeroed
 
-    same-wiping : (r : Option RackFault) (n : Meaning) → Plays (wiping k₁) k₁ r n → Plays (wiping m) k₁ r n
-    same-wiping r n p = subst (λ (w : List Stroke). Plays w k₁ r n) (wipes-alike m k₁ (onto-logs .alike)) p
+    same-wiping : (r : Option RackFault) (n : Meaning) → Plays (wiping k₁) k₁ r n → Plays planned k₁ r n
+    same-wiping r n p = subst (λ (w : List Stroke). Plays w k₁ r n) (wipes-shape pages m k₁ (onto-logs .alike)) p
 
     pub stops-wiping : (k : Meaning) (f : RackFault) → Plays (wiping k₁) k₁ (Some f) k → Plays plan m (Some f) k
-    stops-wiping k f p = part-refused (wiping m) plan from-pages m k₁ k f onto-logs (same-wiping (Some f) k p)
+    stops-wiping k f p = part-refused planned plan from-pages m k₁ k f onto-logs (same-wiping (Some f) k p)
 
     module _ (k₂ : Meaning) (wiped : Plays (wiping k₁) k₁ None k₂) where
       onto-pages : Onto plan m from-pages k₂
-      onto-pages = part-made (wiping m) plan from-pages m k₁ k₂ onto-logs (same-wiping None k₂ wiped)
+      onto-pages = part-made planned plan from-pages m k₁ k₂ onto-logs (same-wiping None k₂ wiped)
 
       pub stops-blanking : (k : Meaning) (f : RackFault) → Plays (blankPages pages) k₂ (Some f) k → Plays plan m (Some f) k
       stops-blanking k f p = part-refused (blankPages pages) plan (headed new-head) m k₂ k f onto-pages p

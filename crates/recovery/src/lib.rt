@@ -4,73 +4,62 @@
 // zeroes the head before anything else and writes the new one last, each flushed, so a format that stops half-way
 // leaves no head of a store that is only half there.
 ghost use mathlib.Core.Path.{_≡_};
-ghost use Prim.Native.Nat.{_-_, suc, _<_, _≤_};
-ghost use lib.Dec.{ltb};
+ghost use Prim.Native.Nat.{_-_, _<_, _≤_};
 ghost use Rattle.std.specs.Results.{errPart};
-ghost use Rattle.strokes.specs.Plan.{Plays};
-ghost use Rattle.model.specs.Store.{shapeOf, legal, every, legalLog, cold};
+ghost use Rattle.strokes.specs.Plan.{Plays, settledRun};
+ghost use Rattle.model.specs.Store.{shapeOf, cold};
 ghost use Rattle.model.specs.Outcome.{Does, replyOf};
-ghost use Rattle.model.specs.Format.{headed, wipe, wipes, blankPages, formatPlan, formatting, IfFormatted};
+ghost use Rattle.model.specs.Format.{wipe, wipes, blankPages, formatPlan, formatting, IfFormatted};
 use block::Head;
 use block::page_block;
+use drive_set::DriveSet;
+use frame::Frame;
 use model::Refusal;
 use rack::Rack;
 use rack::RackFault;
 use strokes::settle_run;
 
+mod gathering;
+mod marking;
+mod opening;
+mod scanning;
+
 // A store that is not open.
 #[derive(Drop)]
 pub struct Cold;
 
-// Whether the drive can be a log.
-fn log_is_legal<R: Rack>(rack: &R, drive: u16) -> bool
-    requires { ⌜ drive < R·Rack .meaning (now rack) .count ⌝ }
-    ensures { λ r. ⌜ r ≡ legalLog (R·Rack .meaning (now (rack .entry)) .size drive) ⌝ }
-{
-    match rack.blocks(drive) {
-        Ok(blocks) => blocks >= 2 && blocks <= 1024,
-        Err(_) => false,
-    }
+// What recovery knows while it takes logs: the shape and the round of the store, the commit number of each set
+// (0: none), and the logs taken.
+#[derive(Clone, Copy)]
+struct Scan {
+    frame: Frame,
+    round: u32,
+    numbers: [u8; 256],
+    taken: DriveSet,
 }
 
-// Whether each drive from 1 on can be a log.
-fn logs_are_legal<R: Rack>(rack: &R) -> bool
-    requires { ⌜ 1 ≤ R·Rack .meaning (now rack) .count ⌝ }
-    ensures { λ r. ⌜ r ≡ every (λ d. legalLog (R·Rack .meaning (now (rack .entry)) .size (suc d))) (R·Rack .meaning (now (rack .entry)) .count - 1) ⌝ }
-{
-    for drive in 1..rack.drives() {
-        if !log_is_legal(rack, drive) {
-            return false;
-        }
-    }
-    true
+// A store that takes commit records.
+#[derive(Drop)]
+pub struct Collecting {
+    scan: Scan,
 }
 
-// Whether drive 0 has room for the head and the pages.
-fn pages_fit<R: Rack>(rack: &R, pages: u16) -> bool
-    requires { ⌜ 0 < R·Rack .meaning (now rack) .count ⌝ }
-    ensures { λ r. ⌜ r ≡ ltb pages (R·Rack .meaning (now (rack .entry)) .size 0) ⌝ }
-{
-    match rack.blocks(0) {
-        Ok(blocks) => pages < blocks,
-        Err(_) => false,
-    }
+// A store that takes change records: it notes the pages that a counting change names.
+#[derive(Drop)]
+pub struct Applying {
+    scan: Scan,
+    named: [bool; 64],
 }
 
-// Whether a store of so many pages can stand on the rack.
-fn is_legal<R: Rack>(rack: &R, pages: u16) -> bool
-    ensures { λ r. ⌜ r ≡ legal (shapeOf pages (R·Rack .meaning (now (rack .entry)))) ⌝ }
-{
-    let drives = rack.drives();
-    if pages < 1 || pages > 64 || drives < 2 || drives > 9 {
-        return false;
-    }
-    pages_fit(rack, pages) && logs_are_legal(rack)
+// What comes of open: a collecting store and the round, or the cold store again with the reason.
+pub enum Opened {
+    Open(Collecting, u32),
+    Refused(Cold, Refusal),
 }
 
 // Writes the head block and settles it.
 fn put_head<R: Rack>(rack: &mut R, head: &[u8; 512]) -> Result<(), RackFault>
-    ensures { λ r. ⌜ Plays (headed (now (head .entry))) (R·Rack .meaning (now (rack .entry))) (errPart r) (R·Rack .meaning (now (rack .exit))) ⌝ }
+    ensures { λ r. ⌜ Plays (settledRun 0 0 1 (now (head .entry))) (R·Rack .meaning (now (rack .entry))) (errPart r) (R·Rack .meaning (now (rack .exit))) ⌝ }
 {
     settle_run(rack, 0, 0, 1, head)
 }
@@ -121,15 +110,21 @@ fn lay_out<R: Rack>(rack: &mut R, pages: u16) -> Result<(), RackFault>
     )
 }
 
+// What comes of turn: an applying store and how many sets are committed, or the collecting store again with the reason.
+pub enum Turned {
+    Turn(Applying, u16),
+    Refused(Collecting, Refusal),
+}
+
 impl Cold {
     // Lays out an empty store of so many pages on the rack. The store stays cold.
     pub fn format<R: Rack>(&self, rack: &mut R, pages: u16) -> Result<(), Refusal>
         ensures does { λ r. ⌜ Does (formatting pages (R·Rack .meaning (now (rack .entry)))) cold (R·Rack .meaning (now (rack .entry))) (replyOf r) cold (R·Rack .meaning (now (rack .exit))) ⌝ }
         ensures stands { λ r. ⌜ IfFormatted (replyOf r) (shapeOf pages (R·Rack .meaning (now (rack .entry)))) (R·Rack .meaning (now (rack .entry))) (R·Rack .meaning (now (rack .exit))) ⌝ }
     {
-        if !is_legal(rack, pages) {
+        let Some(_) = Frame::of(rack, pages) else {
             return Err(Refusal::BadShape);
-        }
+        };
         match lay_out(rack, pages) {
             Ok(()) => Ok(()),
             Err(_) => Err(Refusal::OutOfStrokes),

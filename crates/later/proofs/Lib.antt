@@ -1,0 +1,4 @@
+pub mod Fields
+pub mod Marks
+pub mod Keeping
+pub mod Places

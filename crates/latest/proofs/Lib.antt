@@ -1,4 +1,0 @@
-pub mod Fields
-pub mod Marks
-pub mod Latest
-pub mod Places

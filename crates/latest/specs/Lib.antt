@@ -1,3 +1,0 @@
-pub mod Order
-pub mod Latest
-pub mod Stamps

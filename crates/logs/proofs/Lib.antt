@@ -1,0 +1,3 @@
+pub mod Scanning
+pub mod Records
+pub mod Runs

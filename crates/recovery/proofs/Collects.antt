@@ -1,0 +1,73 @@
+-- What collect does, from what its checks and its scan of the log gave.
+use mathlib.Core.Path.{_≡_, refl, sym, ap, ap₂, subst, _∙_}
+use mathlib.Core.Bool.{Bool, true, false, cond, not, _&&_, _||_}
+use mathlib.Core.List.{List}
+use Prim.Native.Nat.{ℕ, _≤_}
+use native.Mathlib.Omega.{arith}
+use lib.Dec.{eqb, ltb, leb}
+use Rattle.std.specs.declared.option.Option.{Option}
+use Rattle.std.specs.declared.option.Option.the-variants.{Some, None}
+use Rattle.rack.specs.declared.RackFault.the-variants.{NoPlace}
+use Rattle.rack.specs.Meaning.{Meaning}
+use Rattle.later.specs.declared.Mark.{Mark}
+use Rattle.later.specs.Keeping.{keptAll}
+use Rattle.logs.specs.declared.Log.{Log}
+use Rattle.logs.specs.Scans.{someIll, commitsIn}
+use Rattle.model.specs.declared.Refusal.{Refusal}
+use Rattle.model.specs.declared.Refusal.the-variants.{BadLog, BadRecord, Rack}
+use Rattle.model.specs.Store.{Collecting, Store, collecting, fits}
+use Rattle.model.specs.Outcome.{refused, number, Does}
+use Rattle.model.specs.Recovery.{when, isLog, alsoTaken, untaken, collectOf}
+use Rattle.model.proofs.Doing.{does-refused, does-still}
+use Rattle.recovery.specs.Views.{logIn, collectFault}
+use Rattle.recovery.proofs.Taking.{log-in-mask, also-taken}
+
+-- an earlier refusal stands, whatever would come later
+early : (a b : Bool) (f g h : Refusal) (rest : Option Refusal) → Some h ≡ when a f (when b g None) → when a f (when b g rest) ≡ Some h
+early true b f g h rest e = sym e
+early false true f g h rest e = sym e
+early false false f g h rest e = let z : _≡_ {A = ℕ} 0 1 = cc in absurd (omega arith)
+
+-- with no early refusal the later one counts
+late : (a b : Bool) (f g : Refusal) (rest : Option Refusal) → None ≡ when a f (when b g None) → (a ≡ false) × (when a f (when b g rest) ≡ rest)
+late true b f g rest e = let z : _≡_ {A = ℕ} 0 1 = cc in absurd (omega arith)
+late false true f g rest e = let z : _≡_ {A = ℕ} 0 1 = cc in absurd (omega arith)
+late false false f g rest e = (refl, refl)
+
+not-true : (b : Bool) → true ≡ not b → b ≡ false
+not-true true e = let z : _≡_ {A = ℕ} 0 1 = cc in absurd (omega arith)
+not-true false e = refl
+
+not-false : (b : Bool) → false ≡ not b → b ≡ true
+not-false true e = refl
+not-false false e = let z : _≡_ {A = ℕ} 0 1 = cc in absurd (omega arith)
+
+module _ (c : Collecting) (ks : List Mark) (d : ℕ) (m : Meaning) where
+  pub does-not-collect : (f : Refusal) → Some f ≡ collectFault c d m → Does (collectOf c ks d m) (collecting c ks) m (refused f) (collecting c ks) m
+  unfolding collectOf
+  does-not-collect f e = does-refused (collectOf c ks d m) (collecting c ks) m f (early (not (isLog (c .shape) d && not (c .taken d))) (not (fits (c .shape) m)) BadLog (Rack NoPlace) f _ e)
+
+  module _ (fine : None ≡ collectFault c d m) (log : Log) (is : log ≡ logIn c d) where
+    pub does-ill : false ≡ not (someIll log m) → Does (collectOf c ks d m) (collecting c ks) m (refused BadRecord) (collecting c ks) m
+    unfolding collectOf
+    does-ill e =
+        let some : someIll (logIn c d) m ≡ true = ap (λ (l : Log). someIll l m) (sym is) ∙ not-false (someIll log m) e in
+        does-refused (collectOf c ks d m) (collecting c ks) m BadRecord
+        (late (not (isLog (c .shape) d && not (c .taken d))) (not (fits (c .shape) m)) BadLog (Rack NoPlace) _ fine .1 ∙ ap (λ (t : Bool). when t BadRecord None) some)
+
+    module _ (few : c .shape .logs ≤ 8) where
+      in-mask : ltb d 16 ≡ true
+      in-mask = log-in-mask (c .shape) d (c .taken d) few (late (not (isLog (c .shape) d && not (c .taken d))) (not (fits (c .shape) m)) BadLog (Rack NoPlace) None fine .0)
+
+      pub does-collect : true ≡ not (someIll log m) → (numbers : List ℕ) → numbers ≡ keptAll leb (c .numbers) (commitsIn log m) →
+          (taken : ℕ → Bool) → ((e : ℕ) → taken e ≡ ((eqb e d && ltb d 16) || c .taken e)) → (n : ℕ) → n ≡ untaken (c .shape) taken →
+          Does (collectOf c ks d m) (collecting c ks) m (number n) (collecting (record { shape = c .shape; round = c .round; numbers = numbers; taken = taken }) ks) m
+      unfolding collectOf
+      does-collect e numbers kept taken adds n left =
+          let none : someIll (logIn c d) m ≡ false = ap (λ (l : Log). someIll l m) (sym is) ∙ not-true (someIll log m) e in
+          let fault = late (not (isLog (c .shape) d && not (c .taken d))) (not (fits (c .shape) m)) BadLog (Rack NoPlace) _ fine .1 ∙ ap (λ (t : Bool). when t BadRecord None) none in
+          let same : numbers ≡ keptAll leb (c .numbers) (commitsIn (logIn c d) m) = kept ∙ ap (λ (l : Log). keptAll leb (c .numbers) (commitsIn l m)) is in
+          let more : taken ≡ alsoTaken (c .taken) d = λ i e. (adds e ∙ also-taken (c .taken) d e in-mask) i in
+          does-still (collectOf c ks d m) (collecting c ks) m _ _ fault refl
+          (ap number (left ∙ ap (untaken (c .shape)) more))
+          (λ i. collecting (record { shape = c .shape; round = c .round; numbers = same i; taken = more i }) ks)

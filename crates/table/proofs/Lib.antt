@@ -1,0 +1,4 @@
+pub mod Writing
+pub mod Raising
+pub mod Ending
+pub mod Finding

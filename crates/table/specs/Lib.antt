@@ -1,0 +1,3 @@
+pub mod Pages
+pub mod Found
+pub mod Heads
