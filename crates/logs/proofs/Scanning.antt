@@ -1,15 +1,12 @@
 -- A scan goes from block to block, and puts what each block gives into a state as it goes.
 use mathlib.Core.Path.{_≡_, refl, sym, ap, _∙_}
 use mathlib.Core.List.{List, [], _∷_, _++_}
-use mathlib.Core.Bool.{Bool, true, false, not}
-use mathlib.Core.Logic.{⊎-elim}
+use mathlib.Core.Bool.{Bool, true}
 use Prim.Native.Nat.{ℕ, zero, suc, _+_, _-_, _<_, _≤_}
 use native.Mathlib.Omega.{arith}
 use lib.ListN.{set}
-use Rattle.std.proofs.shelf.Tests.{cases-eq, or-left, or-right, or-from, not-true, not-false, not-from-true, not-from-false}
 use Rattle.rack.specs.Meaning.{Meaning}
 use Rattle.later.specs.Keeping.{keptLater, keptAll}
-use Rattle.model.specs.Store.{some-of}
 use Rattle.model.specs.Logs.{valueAt, recordOf, given, commitsFrom, offered, offersFrom, named, namedFrom}
 use Rattle.model.specs.Recovery.{marked}
 
@@ -69,25 +66,3 @@ offers-gather numbers pages ρ m d = record { none = λ b. refl; more = λ b n. 
 pub names-gather : (pages ρ : ℕ) (m : Meaning) (d : ℕ) → Gathers (namedFrom pages ρ m d) (λ b. named pages (recordOf ρ (valueAt m d b)))
 unfolding namedFrom
 names-gather pages ρ m d = record { none = λ b. refl; more = λ b n. refl }
-
--- whether some block passes a test, where a scan is told of each block whether it fails
-pub some-more : (f : ℕ → Bool) (b : ℕ) → some-of f b ≡ false → true ≡ not (f b) → some-of f (b + 1) ≡ false
-some-more f b p q =
-    let e : b + 1 ≡ suc b = omega arith in
-    rw e (or-from (some-of f b) (f b) p (not-true (f b) (sym q)))
-
-passes : (f : ℕ → Bool) (n b : ℕ) → b < n → f b ≡ true → some-of f n ≡ true
-passes f zero b h p = absurd (omega arith)
-passes f (suc n) b h p =
-    ⊎-elim
-    (λ (e : b ≡ n). or-right (some-of f n) (f n) (ap f (sym e) ∙ p))
-    (λ (e : b ≡ n → ⊥). or-left (some-of f n) (f n) (passes f n b (omega arith) p))
-    (cases-eq b n)
-
-pub some-found : (f : ℕ → Bool) (n b : ℕ) → b < n → false ≡ not (f b) → false ≡ not (some-of f n)
-some-found f n b h p = sym (not-from-true (some-of f n) (passes f n b h (not-false (f b) (sym p))))
-
-pub some-none : (f : ℕ → Bool) (b n : ℕ) → b ≤ n → n ≤ b → some-of f b ≡ false → true ≡ not (some-of f n)
-some-none f b n h k p =
-    let e : b ≡ n = omega arith in
-    sym (not-from-false (some-of f n) (ap (some-of f) (sym e) ∙ p))

@@ -1,2 +1,4 @@
 pub mod Doing
 pub mod Formatting
+pub mod AnyOrder
+pub mod SomeOf

@@ -5,3 +5,4 @@ pub mod Format
 pub mod Logs
 pub mod Recovery
 pub mod Rounds
+pub mod Laws

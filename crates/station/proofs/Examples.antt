@@ -12,4 +12,7 @@ worked-examples = record {
   bad-pairs = (refl, refl, refl, refl);
   change-block = refl;
   commit-block = refl;
+  later-commit = (refl, refl);
+  undone = refl;
+  later-step = (refl, refl);
 }

@@ -7,7 +7,8 @@ use lib.ListN.{length}
 use Rattle.later.specs.declared.Mark.{Mark}
 use Rattle.model.specs.Logs.{valueAt}
 use Rattle.model.specs.Recovery.{isNone, driveMarks}
-use Rattle.page_drive.proofs.Pasting.{SoFar, so-far-none, so-far-more, so-far-all, each-read}
+use Rattle.model.proofs.SomeOf.{none-passes}
+use Rattle.page_drive.proofs.Pasting.{SoFar, so-far-none, so-far-more, so-far-all}
 use Rattle.page_drive.proofs.read_pages.Needs as need
 
 pub loop-page-holds : need.loop-page-holds
@@ -18,7 +19,7 @@ loop-page-again g c =
     let m = g .R·Rack .meaning (c .args .rack .now) in
     let p = c .loop-page .page in
     λ can.
-    let there = each-read (λ k. isNone (valueAt m 0 (suc k))) (c .args .pages) p (omega arith) (can .readable) in
+    let there = none-passes (λ k. isNone (valueAt m 0 (suc k))) (c .args .pages) p (omega arith) (can .readable) in
     so-far-more (c .args .marks .now) m p (c .loop-page .marks) _ (c .loop-page .inv can) (c .read-page .ensures .whole (c .read-page .ensures .read ∙ ap not there)) (c .read-page .ensures .after)
 
 pub returns : need.returns

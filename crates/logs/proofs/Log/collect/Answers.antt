@@ -1,7 +1,8 @@
 use mathlib.Core.Path.{_∙_, sym}
 use lib.Dec.{leb}
 use Rattle.model.specs.Logs.{valueAt, ill}
-use Rattle.logs.proofs.Scanning.{scan-more, scan-all, keeping, commits-gather, some-more, some-found, some-none}
+use Rattle.model.proofs.SomeOf.{some-more, some-found, some-none}
+use Rattle.logs.proofs.Scanning.{scan-more, scan-all, keeping, commits-gather}
 use Rattle.logs.proofs.Log.collect.Needs as need
 
 pub returns-then-not-collect-block : need.returns-then-not-collect-block
