@@ -181,12 +181,12 @@ formatted z m n has room lasts y =
     }
 
 -- every stroke of a format has its place
-placed-write : (d b : ℕ) (v : Block) (m : Meaning) → length v ≡ 512 → d < m .count → b < m .size d → placed (Write d b v) m ≡ true
+pub placed-write : (d b : ℕ) (v : Block) (m : Meaning) → length v ≡ 512 → d < m .count → b < m .size d → placed (Write d b v) m ≡ true
 placed-write d b v m l h g =
     and-from (eqb (length v) 512) (ltb d (m .count) && ltb b (m .size d)) (eq-eqb (length v) 512 l)
     (and-from (ltb d (m .count)) (ltb b (m .size d)) (lt-ltb d (m .count) h) (lt-ltb b (m .size d) g))
 
-placed-headed : (v : Block) (m : Meaning) → length v ≡ 512 → 0 < m .count → 0 < m .size 0 → Placed (headed v) m
+pub placed-headed : (v : Block) (m : Meaning) → length v ≡ 512 → 0 < m .count → 0 < m .size 0 → Placed (headed v) m
 unfolding Placed
 placed-headed v m l h g = (placed-write 0 0 v m l h g, (lt-ltb 0 (m .count) h, tt))
 

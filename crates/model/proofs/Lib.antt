@@ -2,3 +2,4 @@ pub mod Doing
 pub mod Formatting
 pub mod AnyOrder
 pub mod SomeOf
+pub mod Ending

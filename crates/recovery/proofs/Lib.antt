@@ -5,3 +5,4 @@ pub mod Taking
 pub mod Collects
 pub mod Applies
 pub mod Turns
+pub mod Finishes

@@ -1,2 +1,3 @@
 pub mod Views
 pub mod Found
+pub mod Finish

@@ -6,12 +6,11 @@ ghost use Prim.Native.Nat.{_≤_};
 ghost use lib.Dec.{eqb};
 ghost use Rattle.later.specs.declared.Mark.{Mark};
 ghost use Rattle.rack.specs.Meaning.{Meaning};
-ghost use Rattle.model.specs.Store.{cold, collecting as collectingStore};
+ghost use Rattle.model.specs.Store.{collecting as collectingStore};
 ghost use Rattle.model.specs.Outcome.{Does};
 ghost use Rattle.model.specs.Recovery.{collectOf, turning, committed};
-ghost use Rattle.recovery.specs.Views.{collectingIn, numberReply, turnedReply, turnedStore, collectFault, coldIn};
+ghost use Rattle.recovery.specs.Views.{collectingIn, numberReply, turnedReply, turnedStore, collectFault};
 use crate::Applying;
-use crate::Cold;
 use crate::Collecting;
 use crate::Scan;
 use crate::Turned;
@@ -29,7 +28,7 @@ fn has_number(number: u8) -> u16
 }
 
 // How many sets have a commit number.
-fn count_committed(numbers: &[u8; 256]) -> u16
+pub(crate) fn count_committed(numbers: &[u8; 256]) -> u16
     ensures { λ r. ⌜ r ≡ committed (now (numbers .entry)) ⌝ }
 {
     let mut sets = 0;
@@ -93,12 +92,5 @@ impl Collecting {
             },
             sets,
         )
-    }
-
-    // A cold store; nothing is written.
-    pub fn shut(self) -> Cold
-        ensures { λ r. ⌜ coldIn r ≡ cold ⌝ }
-    {
-        Cold
     }
 }

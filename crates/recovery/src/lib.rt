@@ -1,13 +1,16 @@
-// From nothing to a store: the cold store and its format.
+// From nothing to a warm store: format, open, collect, turn, apply, finish and shut.
 //
-// A store is of one of several types, each moved on by its calls, and the rack is lent to each call. A format
-// zeroes the head before anything else and writes the new one last, each flushed, so a format that stops half-way
-// leaves no head of a store that is only half there.
+// A store is of one of several types, each moved on by its calls, and the rack is lent to each call: `apply` exists
+// only after `turn`, and page changes only after `finish`. A format zeroes the head before anything else and writes
+// the new one last, each flushed, so a format that stops half-way leaves no head of a store that is only half there.
+// Recovery reads each log by itself, in any order, and writes nothing until finish ends the round.
 ghost use mathlib.Core.Path.{_≡_};
 ghost use Prim.Native.Nat.{_-_, _<_, _≤_};
 ghost use Rattle.std.specs.Results.{errPart};
 ghost use Rattle.strokes.specs.Plan.{Plays, settledRun};
-ghost use Rattle.model.specs.Store.{shapeOf, cold};
+ghost use mathlib.Core.Bool.{true};
+ghost use Rattle.frame.specs.Frames.{shapeIn};
+ghost use Rattle.model.specs.Store.{shapeOf, legal, cold};
 ghost use Rattle.model.specs.Outcome.{Does, replyOf};
 ghost use Rattle.model.specs.Format.{wipe, wipes, blankPages, formatPlan, formatting, IfFormatted};
 use block::Head;
@@ -18,11 +21,20 @@ use model::Refusal;
 use rack::Rack;
 use rack::RackFault;
 use strokes::settle_run;
+use warm::Warm;
 
+mod finishing;
 mod gathering;
 mod marking;
 mod opening;
 mod scanning;
+mod shutting;
+
+pub use shutting::ApplyingShut;
+pub use shutting::ColdShut;
+pub use shutting::CollectingShut;
+pub use shutting::Shut;
+pub use shutting::WarmShut;
 
 // A store that is not open.
 #[derive(Drop)]
@@ -36,6 +48,7 @@ struct Scan {
     round: u32,
     numbers: [u8; 256],
     taken: DriveSet,
+    ghost legal: { legal (shapeIn frame) ≡ true },
 }
 
 // A store that takes commit records.
@@ -114,6 +127,14 @@ fn lay_out<R: Rack>(rack: &mut R, pages: u16) -> Result<(), RackFault>
 pub enum Turned {
     Turn(Applying, u16),
     Refused(Collecting, Refusal),
+}
+
+// What comes of finish: a warm store with the committed sets and the pages written; the applying store again with the
+// reason; or a cold store, where strokes ran out.
+pub enum Finished {
+    Done(Warm, u16, u16),
+    Refused(Applying, Refusal),
+    Short(Cold),
 }
 
 impl Cold {

@@ -1,13 +1,12 @@
 // An applying store: it takes the change records of each log once, in any order, into the caller's marks.
 ghost use mathlib.Core.Path.{_≡_};
 ghost use lib.ListN.{length};
-ghost use Rattle.model.specs.Store.{cold, applying as applyingStore};
+ghost use Rattle.model.specs.Store.{applying as applyingStore};
 ghost use Rattle.model.specs.Outcome.{Does};
 ghost use Rattle.model.specs.Recovery.{applyOf};
 ghost use Rattle.model.specs.Laws.{Any-order, Latest-stays};
-ghost use Rattle.recovery.specs.Views.{applyingIn, numberReply, applyFault, coldIn};
+ghost use Rattle.recovery.specs.Views.{applyingIn, numberReply, applyFault};
 use crate::Applying;
-use crate::Cold;
 use later::Mark;
 use model::Refusal;
 use rack::Rack;
@@ -47,12 +46,5 @@ impl Applying {
         self.named = named;
         self.scan.taken = self.scan.taken.with(log);
         Ok(self.scan.untaken())
-    }
-
-    // A cold store; nothing is written.
-    pub fn shut(self) -> Cold
-        ensures { λ r. ⌜ coldIn r ≡ cold ⌝ }
-    {
-        Cold
     }
 }
