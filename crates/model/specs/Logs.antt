@@ -1,17 +1,21 @@
 -- What a log says, block by block.
 --
---   valueAt m d b            what a read of block b of drive d gives: None where it cannot be read
---   Record                   a change or a commit
---   recordIn b               the record whose block b is, if there is one
---   counts ρ o               the value o counts in the round ρ: it is readable, and its bytes 4 to 7 are ρ
---   recordOf ρ o             the record in a value that counts in the round ρ
---   ill ρ pages o            the value counts, and is no commit and no change of one of the pages
---   commitsFrom ρ m d b n    the sets with their commit numbers that the n blocks of drive d from b on give
---   stampOf numbers d b v    the stamp of the bytes of the change v in block b of drive d
---   imageOf numbers v        the bytes that it offers: after bytes where its set has a commit number, else before bytes
---   offered .. r             the marks that the record r offers, each with its place
---   offersFrom ..            the marks that the n blocks of drive d from b on offer, each with its place
---   named pages r            the page that the record r names
+--   valueAt m d b                    what a read of block b of drive d gives: None where it cannot be read
+--   Record                           a change or a commit
+--   recordIn b                       the record whose block b is, if there is one
+--   counts ρ o                       the value o counts in the round ρ: it is readable, and its bytes 4 to 7 are ρ
+--   recordOf ρ o                     the record in a value that counts in the round ρ
+--   sound pages r                    the record r is a commit, or a change of one of the pages
+--   ill ρ pages o                    the value counts, and holds no such record
+--   commitsFrom ρ m d b n            the sets with their commit numbers that the n blocks of drive d from b on give
+--   stampOf ns d b v                 the stamp of the bytes of the change v in block b of drive d; ns are the commit numbers
+--   imageOf ns v                     the bytes that v offers: after bytes where its set has a commit number, else before bytes
+--   spread s i ps bytes              the joined bytes in the runs of the pairs ps, all with the stamp s, each with its place;
+--                                    i is the place of the page's first byte
+--   offered ns pages d b r           the marks that the record r in block b of drive d offers, each with its place
+--   offersFrom ns pages ρ m d b n    the marks that the n blocks of drive d from b on offer, each with its place
+--   named pages r                    the page that the record r names
+--   namedFrom pages ρ m d b n        the pages that the n blocks of drive d from b on name
 use mathlib.Core.List.{List, [], _∷_, _++_, map}
 use mathlib.Core.Bool.{Bool, true, false, cond, not, _&&_}
 use Prim.Native.Nat.{ℕ, zero, suc, _+_, _*_}

@@ -2,12 +2,20 @@
 --
 --   when b f rest         the refusal f where the test holds, and else what comes after
 --   headOn m              the head that stands on the rack m, if one does
+--   driveMark x           the byte x with the stamp of a drive's own
 --   driveMarks m n        the marks of the first n pages, as they stand on drive 0
+--   openFault h k m       why open is refused where the head is h and there are k marks, if it is
+--   opening k m           the outcome of open with k marks
 --   isLog z d             d is a log of a store of the shape z
 --   alsoTaken t d         the logs taken, and d
 --   untaken z t           how many logs are still untaken
+--   collected c d m       the commit numbers, with those that log d gives
+--   collectOf c ks d m    the outcome of collect of log d; ks are the caller's marks, here and below
 --   committed numbers     how many sets have a commit number
---   opening, collectOf, turning, applyOf    the outcomes of the calls
+--   turning c ks          the outcome of turn
+--   marked ns ps          the flags ps of the pages, with those of the pages ns set
+--   applied a ks d m      the marks, with those that log d offers
+--   applyOf a ks d m      the outcome of apply of log d
 use mathlib.Core.List.{List, [], _∷_, _++_, map}
 use mathlib.Core.Bool.{Bool, true, false, cond, not, _&&_, _||_}
 use Prim.Native.Nat.{ℕ, zero, suc, _+_, _-_, _*_}
@@ -35,6 +43,8 @@ abbrev pub when : Bool → Refusal → Option Refusal → Option Refusal
 when b f rest = cond b (Some f) rest
 
 -- OPEN
+
+-- a block that cannot be read holds no head
 abbrev pub headOfValue : Option Block → Option Head
 headOfValue None = None
 headOfValue (Some b) = headIn b
@@ -42,14 +52,15 @@ headOfValue (Some b) = headIn b
 abbrev pub headOn : Meaning → Option Head
 headOn m = headOfValue (valueAt m 0 0)
 
+-- nothing is there
 abbrev pub isNone : {X : Type 0} → Option X → Bool
 isNone None = true
 isNone (Some x) = false
 
--- a byte with the stamp of a drive's own
 abbrev pub driveMark : ℕ → Mark
 driveMark x = record { stamp = Drive; byte = x }
 
+-- the marks of a page in this block
 abbrev pub pageMarks : Option Block → List Mark
 pageMarks None = []
 pageMarks (Some b) = map driveMark (pageContent b)
@@ -72,6 +83,7 @@ opened None m = cold
 opened (Some h) m =
     collecting (record { shape = shapeOf (h .pages) m; round = h .round; numbers = replicate 256 0; taken = λ _. false }) (driveMarks m (h .pages))
 
+-- the round, as the answer
 abbrev pub roundReply : Option Head → Reply
 roundReply None = done
 roundReply (Some h) = number (h .round)
@@ -81,6 +93,8 @@ unfoldable pub opening : ℕ → Meaning → Outcome
 opening k m = record { fault = openFault (headOn m) k m; plan = []; reply = roundReply (headOn m); good = opened (headOn m) m; short = cold }
 
 -- COLLECT
+
+-- logs are drives 1 to n
 abbrev pub isLog : Shape → ℕ → Bool
 isLog z d = leb 1 d && leb d (z .logs)
 
@@ -109,6 +123,8 @@ collectOf c ks d m = record {
 }
 
 -- TURN
+
+-- a set without a commit number has 0
 abbrev pub committed : List ℕ → ℕ
 committed [] = 0
 committed (k ∷ ks) = cond (eqb k 0) 0 1 + committed ks
@@ -124,6 +140,8 @@ turning c ks = record {
 }
 
 -- APPLY
+
+-- a page that there is no flag for changes nothing
 abbrev pub marked : List ℕ → List Bool → List Bool
 marked [] ps = ps
 marked (n ∷ ns) ps = marked ns (set ps n true)

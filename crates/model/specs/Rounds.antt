@@ -5,7 +5,8 @@
 --   roundEnd z ρ f c        the strokes that end the round ρ: the logs flushed, the pages that pass f written and flushed, the head raised
 --   restPage c              a page with the content c that nobody holds and no record names
 --   rested z ρ c            the warm store of the shape z at the start of the round ρ, with the contents c
---   foundPage ks p          the content of page p by the marks ks
+--   foundPage n ks p        the content of page p of a store of n pages, by the marks ks
+--   isNamed a p             a counting change names page p
 --   finishing a ks m        the outcome of finish
 use mathlib.Core.List.{List, [], _∷_, _++_, map}
 use mathlib.Core.Bool.{Bool, true, false, cond, not}
@@ -30,6 +31,7 @@ unfoldable pub flushes : ℕ → ℕ → List Stroke
 flushes d zero = []
 flushes d (suc n) = Flush d ∷ flushes (suc d) n
 
+-- a page is the block behind its number
 unfoldable pub pageWrites : (ℕ → Bool) → (ℕ → List ℕ) → ℕ → ℕ → List Stroke
 pageWrites f c p zero = []
 pageWrites f c p (suc n) = cond (f p) (Write 0 (suc p) (pageBlock (c p)) ∷ pageWrites f c (suc p) n) (pageWrites f c (suc p) n)
