@@ -10,7 +10,7 @@ use Rattle.later.specs.Keeping.{keptAll, cameTo, latest, Among, SameMembers, Ke
 use Rattle.later.specs.Stamps.{markUpto}
 use Rattle.later.proofs.Places.{keeps-the-latest}
 use Rattle.later.proofs.Marks.{marks-ordered}
-use Rattle.model.specs.Laws.{Logs, offersOn, allOffers, Any-order, Latest-stays}
+use Rattle.model.specs.Laws.{Logs, offersOn, allOffers, Any-order, Largest-stays}
 
 law : Keeps-the-latest markUpto
 law = keeps-the-latest marks-ordered
@@ -51,9 +51,9 @@ pub any-order : Any-order
 unfolding law
 any-order l ks ds es same = law .same-list ks (allOffers l ds) (allOffers l es) (λ x. (moved l ds es (λ d. same d .0) x, moved l es ds (λ d. same d .1) x))
 
-pub latest-stays : Latest-stays
+pub largest-stays : Largest-stays
 unfolding law
-latest-stays l ks ds i none h =
+largest-stays l ks ds i none h =
     let e = law .places ks (allOffers l ds) i none h in
     let k = getD ks i none in
     let cs = cameTo i (allOffers l ds) in (

@@ -3,7 +3,7 @@
 --   Logs               what an applying store goes by: commit numbers, page count, round, the rack, and the blocks of each log
 --   allOffers l ds     the marks that the logs ds offer, taken in this order, each with its place
 --   Any-order          the marks do not hang on the order in which logs are taken, nor on how often
---   Latest-stays       each byte ends with the mark of the largest stamp among the one that was there and those offered for it
+--   Largest-stays       each byte ends with the mark of the largest stamp among the one that was there and those offered for it
 use mathlib.Core.Path.{_≡_}
 use mathlib.Core.Bool.{true}
 use mathlib.Core.List.{List, [], _∷_, _++_}
@@ -34,8 +34,8 @@ abbrev pub Any-order : Type 0
 Any-order = (l : Logs) (ks : List Mark) (ds es : List ℕ) → SameMembers ds es → keptAll markUpto ks (allOffers l ds) ≡ keptAll markUpto ks (allOffers l es)
 
 -- i: the place of the byte among the marks
-abbrev pub Latest-stays : Type 0
-Latest-stays =
+abbrev pub Largest-stays : Type 0
+Largest-stays =
     (l : Logs) (ks : List Mark) (ds : List ℕ) (i : ℕ) (none : Mark) → i < length ks →
     let kept = getD (keptAll markUpto ks (allOffers l ds)) i none in
     let met = getD ks i none ∷ cameTo i (allOffers l ds) in

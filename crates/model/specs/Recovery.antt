@@ -1,6 +1,7 @@
 -- From cold to applying: open, collect, turn, apply.
 --
 --   when b f rest         the refusal f where the test holds, and else what comes after
+--   orElse o rest         the refusal o if there is one, and else what comes after
 --   headOn m              the head that stands on the rack m, if one does
 --   driveMark x           the byte x with the stamp of a drive's own
 --   driveMarks m n        the marks of the first n pages, as they stand on drive 0
@@ -10,11 +11,13 @@
 --   alsoTaken t d         the logs taken, and d
 --   untaken z t           how many logs are still untaken
 --   collected c d m       the commit numbers, with those that log d gives
+--   collectFault c d m    why log d cannot be taken, whatever stands on it
 --   collectOf c ks d m    the outcome of collect of log d; ks are the caller's marks, here and below
 --   committed numbers     how many sets have a commit number
 --   turning c ks          the outcome of turn
 --   marked ns ps          the flags ps of the pages, with those of the pages ns set
 --   applied a ks d m      the marks, with those that log d offers
+--   applyFault a k d m    why log d cannot be taken into k marks
 --   applyOf a ks d m      the outcome of apply of log d
 use mathlib.Core.List.{List, [], _∷_, _++_, map}
 use mathlib.Core.Bool.{Bool, true, false, cond, not, _&&_, _||_}
@@ -41,6 +44,10 @@ use Rattle.model.specs.Logs.{valueAt, ill, commitsFrom, offersFrom, namedFrom}
 
 abbrev pub when : Bool → Refusal → Option Refusal → Option Refusal
 when b f rest = cond b (Some f) rest
+
+abbrev pub orElse : Option Refusal → Option Refusal → Option Refusal
+orElse (Some f) rest = Some f
+orElse None rest = rest
 
 -- OPEN
 
@@ -109,13 +116,14 @@ untaken z t = z .logs - tally t 16
 abbrev pub collected : Collecting → ℕ → Meaning → List ℕ
 collected c d m = keptAll leb (c .numbers) (commitsFrom (c .round) m d 0 (c .shape .blocks d))
 
--- a log that is none or is taken; a rack of another shape; a block that counts and is no record
+-- a log that is none or is taken; a rack of another shape
+abbrev pub collectFault : Collecting → ℕ → Meaning → Option Refusal
+collectFault c d m = when (not (isLog (c .shape) d && not (c .taken d))) BadLog (when (not (fits (c .shape) m)) (Rack NoPlace) None)
+
+-- besides, a block that counts and is no record
 unfoldable pub collectOf : Collecting → List Mark → ℕ → Meaning → Outcome
 collectOf c ks d m = record {
-  fault =
-      when (not (isLog (c .shape) d && not (c .taken d))) BadLog
-      (when (not (fits (c .shape) m)) (Rack NoPlace)
-      (when (some-of (λ b. ill (c .round) (c .shape .pages) (valueAt m d b)) (c .shape .blocks d)) BadRecord None));
+  fault = orElse (collectFault c d m) (when (some-of (λ b. ill (c .round) (c .shape .pages) (valueAt m d b)) (c .shape .blocks d)) BadRecord None);
   plan = [];
   reply = number (untaken (c .shape) (alsoTaken (c .taken) d));
   good = collecting (record { shape = c .shape; round = c .round; numbers = collected c d m; taken = alsoTaken (c .taken) d }) ks;
@@ -151,12 +159,14 @@ abbrev pub applied : Applying → List Mark → ℕ → Meaning → List Mark
 applied a ks d m = keptAll markUpto ks (offersFrom (a .numbers) (a .shape .pages) (a .round) m d 0 (a .shape .blocks d))
 
 -- a log that is none or is taken; marks of the wrong length; a rack of another shape
+abbrev pub applyFault : Applying → ℕ → ℕ → Meaning → Option Refusal
+applyFault a k d m =
+    when (not (isLog (a .shape) d && not (a .taken d))) BadLog
+    (when (not (eqb k (a .shape .pages * 240))) BadLength (when (not (fits (a .shape) m)) (Rack NoPlace) None))
+
 unfoldable pub applyOf : Applying → List Mark → ℕ → Meaning → Outcome
 applyOf a ks d m = record {
-  fault =
-      when (not (isLog (a .shape) d && not (a .taken d))) BadLog
-      (when (not (eqb (length ks) (a .shape .pages * 240))) BadLength
-      (when (not (fits (a .shape) m)) (Rack NoPlace) None));
+  fault = applyFault a (length ks) d m;
   plan = [];
   reply = number (untaken (a .shape) (alsoTaken (a .taken) d));
   good = applying (record {

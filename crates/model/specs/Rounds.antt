@@ -7,13 +7,15 @@
 --   rested z ρ c            the warm store of the shape z at the start of the round ρ, with the contents c
 --   foundPage n ks p        the content of page p of a store of n pages, by the marks ks
 --   isNamed a p             a counting change names page p
+--   finishFault a k m       why finish is refused with k marks, if it is
 --   finishing a ks m        the outcome of finish
 use mathlib.Core.List.{List, [], _∷_, _++_, map}
 use mathlib.Core.Bool.{Bool, true, false, cond, not}
 use Prim.Native.Nat.{ℕ, zero, suc, _*_}
 use lib.Dec.{eqb, leb, ltb}
 use lib.ListN.{length, getD, take, drop}
-use Rattle.std.specs.declared.option.Option.the-variants.{Some, None}
+use Rattle.std.specs.declared.option.Option.{Option}
+use Rattle.std.specs.declared.option.Option.the-variants.{None}
 use Rattle.rack.specs.declared.RackFault.the-variants.{NoPlace}
 use Rattle.rack.specs.Meaning.{Meaning}
 use Rattle.strokes.specs.declared.Stroke.{Stroke}
@@ -21,6 +23,7 @@ use Rattle.strokes.specs.declared.Stroke.the-variants.{Write, Flush}
 use Rattle.block.specs.Pages.{pageBlock}
 use Rattle.later.specs.declared.Mark.{Mark}
 use Rattle.drive_set.specs.Sets.{tally}
+use Rattle.model.specs.declared.Refusal.{Refusal}
 use Rattle.model.specs.declared.Refusal.the-variants.{LastRound, BadLog, BadLength, Rack}
 use Rattle.model.specs.Store.{Shape, Page, Warm, Applying, Store, cold, warm, fits}
 use Rattle.model.specs.Outcome.{Outcome, numbers}
@@ -53,15 +56,18 @@ foundPage pages ks p = cond (ltb p pages) (map (λ k. k .byte) (take 240 (drop (
 abbrev pub isNamed : Applying → ℕ → Bool
 isNamed a p = getD (a .pages) p false
 
--- a log untaken; marks of the wrong length; the last round; a rack of another shape. It answers the committed sets and
--- the pages written; where strokes run out the store is cold
+-- a log untaken; marks of the wrong length; the last round; a rack of another shape
+abbrev pub finishFault : Applying → ℕ → Meaning → Option Refusal
+finishFault a k m =
+    when (not (eqb (untaken (a .shape) (a .taken)) 0)) BadLog
+    (when (not (eqb k (a .shape .pages * 240))) BadLength
+    (when (leb 4294967295 (a .round)) LastRound
+    (when (not (fits (a .shape) m)) (Rack NoPlace) None)))
+
+-- it answers the committed sets and the pages written; where strokes run out the store is cold
 unfoldable pub finishing : Applying → List Mark → Meaning → Outcome
 finishing a ks m = record {
-  fault =
-      when (not (eqb (untaken (a .shape) (a .taken)) 0)) BadLog
-      (when (not (eqb (length ks) (a .shape .pages * 240))) BadLength
-      (when (leb 4294967295 (a .round)) LastRound
-      (when (not (fits (a .shape) m)) (Rack NoPlace) None)));
+  fault = finishFault a (length ks) m;
   plan = roundEnd (a .shape) (a .round) (isNamed a) (foundPage (a .shape .pages) ks);
   reply = numbers (committed (a .numbers)) (tally (isNamed a) (a .shape .pages));
   good = warm (rested (a .shape) (suc (a .round)) (foundPage (a .shape .pages) ks));

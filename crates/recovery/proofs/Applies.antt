@@ -16,9 +16,8 @@ use Rattle.model.specs.declared.Refusal.{Refusal}
 use Rattle.model.specs.declared.Refusal.the-variants.{BadLog}
 use Rattle.model.specs.Store.{Applying, Store, applying}
 use Rattle.model.specs.Outcome.{refused, number, Does}
-use Rattle.model.specs.Recovery.{isLog, alsoTaken, untaken, marked, applyOf}
+use Rattle.model.specs.Recovery.{isLog, alsoTaken, untaken, marked, applyFault, applyOf}
 use Rattle.model.proofs.Doing.{does-refused, does-still}
-use Rattle.recovery.specs.Views.{applyFault}
 use Rattle.recovery.proofs.Taking.{none-first, log-in-mask, also-taken}
 
 module _ (a : Applying) (ks : List Mark) (d : ℕ) (m : Meaning) where

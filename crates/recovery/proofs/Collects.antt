@@ -18,39 +18,31 @@ use Rattle.model.specs.declared.Refusal.{Refusal}
 use Rattle.model.specs.declared.Refusal.the-variants.{BadLog, BadRecord, Rack}
 use Rattle.model.specs.Store.{Collecting, Store, collecting, fits}
 use Rattle.model.specs.Outcome.{refused, number, Does}
-use Rattle.model.specs.Recovery.{when, isLog, alsoTaken, untaken, collectOf}
+use Rattle.model.specs.Recovery.{when, orElse, isLog, alsoTaken, untaken, collectFault, collectOf}
 use Rattle.model.proofs.Doing.{does-refused, does-still}
-use Rattle.recovery.specs.Views.{logIn, collectFault}
-use Rattle.recovery.proofs.Taking.{log-in-mask, also-taken}
-
--- an earlier refusal stands, whatever would come later
-early : (a b : Bool) (f g h : Refusal) (rest : Option Refusal) → Some h ≡ when a f (when b g None) → when a f (when b g rest) ≡ Some h
-early true b f g h rest e = sym e
-early false true f g h rest e = sym e
-early false false f g h rest e = let z : _≡_ {A = ℕ} 0 1 = cc in absurd (omega arith)
-
--- with no early refusal the later one counts
-late : (a b : Bool) (f g : Refusal) (rest : Option Refusal) → None ≡ when a f (when b g None) → (a ≡ false) × (when a f (when b g rest) ≡ rest)
-late true b f g rest e = let z : _≡_ {A = ℕ} 0 1 = cc in absurd (omega arith)
-late false true f g rest e = let z : _≡_ {A = ℕ} 0 1 = cc in absurd (omega arith)
-late false false f g rest e = (refl, refl)
+use Rattle.recovery.specs.Views.{logIn}
+use Rattle.recovery.proofs.Taking.{log-in-mask, also-taken, none-first}
 
 module _ (c : Collecting) (ks : List Mark) (d : ℕ) (m : Meaning) where
   pub does-not-collect : (f : Refusal) → Some f ≡ collectFault c d m → Does (collectOf c ks d m) (collecting c ks) m (refused f) (collecting c ks) m
   unfolding collectOf
-  does-not-collect f e = does-refused (collectOf c ks d m) (collecting c ks) m f (early (not (isLog (c .shape) d && not (c .taken d))) (not (fits (c .shape) m)) BadLog (Rack NoPlace) f _ e)
+  does-not-collect f e = does-refused (collectOf c ks d m) (collecting c ks) m f (ap (λ (o : Option Refusal). orElse o (when (someIll (logIn c d) m) BadRecord None)) (sym e))
 
   module _ (fine : None ≡ collectFault c d m) (log : Log) (is : log ≡ logIn c d) where
+    -- with nothing against the log, what stands on it decides
+    fault-is : (t : Bool) → orElse (collectFault c d m) (when t BadRecord None) ≡ when t BadRecord None
+    fault-is t = ap (λ (o : Option Refusal). orElse o (when t BadRecord None)) (sym fine)
+
     pub does-ill : false ≡ not (someIll log m) → Does (collectOf c ks d m) (collecting c ks) m (refused BadRecord) (collecting c ks) m
     unfolding collectOf
     does-ill e =
         let some : someIll (logIn c d) m ≡ true = ap (λ (l : Log). someIll l m) (sym is) ∙ not-false (someIll log m) (sym e) in
         does-refused (collectOf c ks d m) (collecting c ks) m BadRecord
-        (late (not (isLog (c .shape) d && not (c .taken d))) (not (fits (c .shape) m)) BadLog (Rack NoPlace) _ fine .1 ∙ ap (λ (t : Bool). when t BadRecord None) some)
+        (fault-is (someIll (logIn c d) m) ∙ ap (λ (t : Bool). when t BadRecord None) some)
 
     module _ (few : c .shape .logs ≤ 8) where
       in-mask : ltb d 16 ≡ true
-      in-mask = log-in-mask (c .shape) d (c .taken d) few (late (not (isLog (c .shape) d && not (c .taken d))) (not (fits (c .shape) m)) BadLog (Rack NoPlace) None fine .0)
+      in-mask = log-in-mask (c .shape) d (c .taken d) few (none-first (not (isLog (c .shape) d && not (c .taken d))) BadLog (when (not (fits (c .shape) m)) (Rack NoPlace) None) fine)
 
       pub does-collect : true ≡ not (someIll log m) → (numbers : List ℕ) → numbers ≡ keptAll leb (c .numbers) (commitsIn log m) →
           (taken : ℕ → Bool) → ((e : ℕ) → taken e ≡ ((eqb e d && ltb d 16) || c .taken e)) → (n : ℕ) → n ≡ untaken (c .shape) taken →
@@ -58,7 +50,7 @@ module _ (c : Collecting) (ks : List Mark) (d : ℕ) (m : Meaning) where
       unfolding collectOf
       does-collect e numbers kept taken adds n left =
           let none : someIll (logIn c d) m ≡ false = ap (λ (l : Log). someIll l m) (sym is) ∙ not-true (someIll log m) (sym e) in
-          let fault = late (not (isLog (c .shape) d && not (c .taken d))) (not (fits (c .shape) m)) BadLog (Rack NoPlace) _ fine .1 ∙ ap (λ (t : Bool). when t BadRecord None) none in
+          let fault = fault-is (someIll (logIn c d) m) ∙ ap (λ (t : Bool). when t BadRecord None) none in
           let same : numbers ≡ keptAll leb (c .numbers) (commitsIn (logIn c d) m) = kept ∙ ap (λ (l : Log). keptAll leb (c .numbers) (commitsIn l m)) is in
           let more : taken ≡ alsoTaken (c .taken) d = λ i e. (adds e ∙ also-taken (c .taken) d e in-mask) i in
           does-still (collectOf c ks d m) (collecting c ks) m _ _ fault refl

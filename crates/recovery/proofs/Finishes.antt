@@ -23,13 +23,12 @@ use Rattle.model.specs.declared.Refusal.the-variants.{OutOfStrokes, BadLog, Bad
 use Rattle.model.specs.Store.{Shape, Warm, Applying, Store, cold, applying, warm, fits, legal}
 use Rattle.model.specs.Outcome.{refused, numbers, Does}
 use Rattle.model.specs.Recovery.{when, untaken, committed}
-use Rattle.model.specs.Rounds.{roundEnd, restPage, rested, foundPage, isNamed, finishing}
+use Rattle.model.specs.Rounds.{roundEnd, restPage, rested, foundPage, isNamed, finishFault, finishing}
 use Rattle.model.proofs.Doing.{does-refused, does-all, does-short}
 use Rattle.model.proofs.Ending.{placed-end}
 use Rattle.frame.proofs.Legal.{legal-facts}
 use Rattle.frame.proofs.Fitting.{fits-facts}
 use Rattle.drive_set.specs.Sets.{tally}
-use Rattle.recovery.specs.Finish.{finishFault}
 use Rattle.recovery.proofs.Taking.{none-first}
 
 none-rest : (a : Bool) (f : Refusal) (rest : Option Refusal) → None ≡ when a f rest → None ≡ rest

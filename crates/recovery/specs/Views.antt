@@ -5,8 +5,6 @@
 --   collectingIn c      the collecting store c
 --   applyingIn a        the applying store a
 --   logIn c d           the log on drive d, as the collecting store c reads it
---   collectFault c d m  why log d cannot be taken, whatever stands on it
---   applyFault a k d m  why log d cannot be taken into k marks
 --   numberReply r       the reply of a call that answers a number
 --   openedReply r       what open replied
 --   openedStore r ks    the store that open leaves, where the caller's marks are ks
@@ -15,23 +13,15 @@
 --   KeepsMarks r ks js  where open refused, the caller's marks are as they were
 use mathlib.Core.Path.{_≡_}
 use mathlib.Core.List.{List}
-use mathlib.Core.Bool.{not, _&&_}
-use Prim.Native.Nat.{ℕ, _*_}
-use lib.Dec.{eqb}
+use Prim.Native.Nat.{ℕ}
 use Rattle.later.specs.declared.Mark.{Mark}
 use Rattle.drive_set.specs.Sets.{holds}
 use Rattle.frame.specs.Frames.{shapeIn}
-use Rattle.std.specs.declared.option.Option.{Option}
-use Rattle.std.specs.declared.option.Option.the-variants.{None}
 use Rattle.std.specs.declared.result.Result.{Result}
 use Rattle.std.specs.declared.result.Result.the-variants.{Ok, Err}
-use Rattle.rack.specs.declared.RackFault.the-variants.{NoPlace}
-use Rattle.rack.specs.Meaning.{Meaning}
 use Rattle.logs.specs.declared.Log.{Log}
 use Rattle.model.specs.declared.Refusal.{Refusal}
-use Rattle.model.specs.declared.Refusal.the-variants.{BadLog, BadLength, Rack}
-use Rattle.model.specs.Recovery.{when, isLog}
-use Rattle.model.specs.Store.{Collecting as CollectingState, Applying as ApplyingState, Store, cold, collecting, applying, fits}
+use Rattle.model.specs.Store.{Collecting as CollectingState, Applying as ApplyingState, Store, cold, collecting, applying}
 use Rattle.model.specs.Outcome.{Reply, refused, number}
 use Rattle.recovery.specs.declared.Cold.{Cold}
 use Rattle.recovery.specs.declared.Scan.{Scan}
@@ -56,14 +46,6 @@ applyingIn a = record { shape = shapeIn (a .scan .frame); round = a .scan .round
 
 abbrev pub logIn : CollectingState → ℕ → Log
 logIn c d = record { drive = d; blocks = c .shape .blocks d; round = c .round; pages = c .shape .pages }
-
-abbrev pub collectFault : CollectingState → ℕ → Meaning → Option Refusal
-collectFault c d m = when (not (isLog (c .shape) d && not (c .taken d))) BadLog (when (not (fits (c .shape) m)) (Rack NoPlace) None)
-
-abbrev pub applyFault : ApplyingState → ℕ → ℕ → Meaning → Option Refusal
-applyFault a k d m =
-    when (not (isLog (a .shape) d && not (a .taken d))) BadLog
-    (when (not (eqb k (a .shape .pages * 240))) BadLength (when (not (fits (a .shape) m)) (Rack NoPlace) None))
 
 abbrev pub numberReply : Result ℕ Refusal → Reply
 numberReply (Ok n) = number n

@@ -3,9 +3,9 @@ ghost use mathlib.Core.Path.{_≡_};
 ghost use lib.ListN.{length};
 ghost use Rattle.model.specs.Store.{applying as applyingStore};
 ghost use Rattle.model.specs.Outcome.{Does};
-ghost use Rattle.model.specs.Recovery.{applyOf};
-ghost use Rattle.model.specs.Laws.{Any-order, Latest-stays};
-ghost use Rattle.recovery.specs.Views.{applyingIn, numberReply, applyFault};
+ghost use Rattle.model.specs.Recovery.{applyFault, applyOf};
+ghost use Rattle.model.specs.Laws.{Any-order, Largest-stays};
+ghost use Rattle.recovery.specs.Views.{applyingIn, numberReply};
 use crate::Applying;
 use later::Mark;
 use model::Refusal;
@@ -33,7 +33,7 @@ impl Applying {
     // are taken does not count, and each byte ends with the mark of the largest stamp.
     pub fn apply<R: Rack>(&mut self, rack: &R, log: u16, marks: &mut [Mark]) -> Result<u16, Refusal>
         ensures any_order { λ _. ⌜ Any-order ⌝ }
-        ensures latest_stays { λ _. ⌜ Latest-stays ⌝ }
+        ensures largest_stays { λ _. ⌜ Largest-stays ⌝ }
         ensures does { λ r. ⌜ Does (applyOf (applyingIn (now (self .entry))) (now (marks .entry)) log (R·Rack .meaning (now (rack .entry)))) (applyingStore (applyingIn (now (self .entry))) (now (marks .entry))) (R·Rack .meaning (now (rack .entry))) (numberReply r) (applyingStore (applyingIn (now (self .exit))) (now (marks .exit))) (R·Rack .meaning (now (rack .entry))) ⌝ }
     {
         if let Some(refusal) = self.check(rack, log, marks.len()) {
