@@ -4,6 +4,8 @@
 // not name are zero. Reading is strict: bytes read as a value exactly where the value may be written and they are
 // its block. So no two such values have the same block. Only a page is read whatever its block holds: its content
 // counts, and the bytes behind the content are ignored.
+#![tactic(auto)]
+
 ghost use Rattle.std.specs.Prelude.{◌≡◌, length, Decides};
 ghost use Rattle.block.specs.Bytes.{ReadsBack};
 ghost use Rattle.block.specs.Heads.{HeadOk, head_front, head_block, head_of, HeadShaped};

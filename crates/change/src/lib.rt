@@ -3,6 +3,8 @@
 // A change says what some runs of bytes of a page were before it and are after it. Reading is strict: bytes read as a
 // change exactly where it may be written and they are its block. What is read borrows from the block: `before` and
 // `after` are parts of it.
+#![tactic(auto)]
+
 ghost use Rattle.std.specs.Prelude.{◌≡◌, ◌+◌, ◌-◌, ◌≤◌, ◌++◌, length, take, drop, Decides};
 ghost use Rattle.std.specs.Option.{option_map};
 ghost use Rattle.block.specs.Bytes.{zeros, ReadsBack};

@@ -3,6 +3,8 @@
 // Each command is answered by one call of the store or of the rack, and its answer is made from what that call
 // gave. A new rack needs memory of its own, so the step on the command `rack` is to build one. A number that is
 // too large for a call's own type is cut down to one that names nothing there.
+#![tactic(auto)]
+
 ghost use Rattle.std.specs.Prelude.{◌≡◌, ◌<◌, MatchResult};
 ghost use Rattle.rack.specs.Answers.{answer};
 ghost use Rattle.script.specs.Commands.{said, command_in};

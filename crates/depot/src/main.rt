@@ -1,6 +1,8 @@
 // A depot station that is driven by a script: one command a line on standard input, one answer a line on
 // standard output. What a line means and what it is answered is the library's, in crates `script` and `console`;
 // here lines are read, memory is had for racks, and answers are printed.
+#![tactic(auto)]
+
 use anyhow::anyhow;
 use console::{Station, Step};
 use rack::shape::Shape;

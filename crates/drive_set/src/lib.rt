@@ -4,6 +4,8 @@
 // nothing, so no call asks anything of its caller. Every call is promised by the drives that the set holds.
 // Whoever ticks off the drives 1 to n need only count: a drive not yet held makes one more, and n of them are
 // all of them.
+#![tactic(auto)]
+
 ghost use Rattle.std.specs.Prelude.{◌≡◌, ℕ, ◌<◌, false, count_ones};
 ghost use Rattle.drive_set.specs.Sets.{holds, tally, Adds};
 ghost use Rattle.drive_set.specs.Laws.{CountsAll, CountsMore};

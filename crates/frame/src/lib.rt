@@ -3,6 +3,8 @@
 // A frame is taken from a rack once, and only where a store can have the rack's shape. From then on the code asks
 // the frame for pages, logs and blocks, and asks the rack only whether it still has this shape. The calls stand in
 // modules of their own, since a definition that names the struct cannot be cited in the file that declares it.
+#![tactic(auto)]
+
 ghost use Rattle.std.specs.Prelude.{◌≤◌};
 
 mod shape;

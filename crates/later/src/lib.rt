@@ -7,6 +7,8 @@
 //
 // Two kinds are kept so: the commit number of each set, of which the larger stays, and the marks of the page bytes, of
 // which the one with the larger stamp stays.
+#![tactic(auto)]
+
 ghost use Rattle.std.specs.Prelude.{◌≡◌, Bool, nat_le};
 ghost use Rattle.later.specs.Order.{TotalOrder, by_first, by_fields};
 ghost use Rattle.later.specs.Keeping.{later, kept_later, KeepsTheLatest};

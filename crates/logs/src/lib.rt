@@ -5,6 +5,8 @@
 // block that cannot be read is passed over, and so is one of another round: neither ends the scan, since a stop can
 // leave such a block in the midst of good ones. What is found goes by keep-the-later into what the caller has, so the
 // order in which logs and blocks are read does not count.
+#![tactic(auto)]
+
 ghost use Rattle.std.specs.Prelude.{◌≡◌, true, not, set, nat_le, slice_set};
 ghost use Rattle.later.specs.Keeping.{kept_all};
 ghost use Rattle.later.specs.Stamps.{mark_upto};

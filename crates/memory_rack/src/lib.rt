@@ -6,6 +6,8 @@
 // is promised by an equation between what the rack keeps before and after it.
 //
 // `poke` and `tear` are for service and tests: they reach a block past the interface and take no stroke.
+#![tactic(auto)]
+
 ghost use Rattle.std.specs.Prelude.{◌≡◌, ◌+◌, ◌*◌, ◌<◌, ◌≤◌, length, IfSome, Some, None, OnOk};
 ghost use Rattle.rack.specs.Meaning.{written, flushed};
 ghost use Rattle.rack.specs.Answers.{answer, write_fault, flush_fault, Leaves};

@@ -4,6 +4,8 @@
 // a call does reads them here, in specs/, and holds them against docs/FORMATS.md and docs/REFUSALS.md. What is
 // said above them in the subject's words (what stands after a format) is proved of the same definitions. Beside
 // them stand the refusals, and the one way to read a block.
+#![tactic(auto)]
+
 ghost use Rattle.std.specs.Prelude.{◌≡◌};
 ghost use Rattle.model.specs.Logs.{value_at};
 ghost use Rattle.model.specs.Refusals.{refusal_number};

@@ -2,6 +2,8 @@
 //
 // Recovery looks at all of it before it changes anything of the caller's: first the head, then whether every page
 // can be read, and only then are the pages read into the marks, one for each page byte.
+#![tactic(auto)]
+
 ghost use Rattle.std.specs.Prelude.{◌≡◌, suc, ◌+◌, ◌*◌, ◌<◌, ◌≤◌, true, not, map, length};
 ghost use Rattle.block.specs.Readings.{head_in};
 ghost use Rattle.page_drive.specs.Pages.{pasted, CanRead};

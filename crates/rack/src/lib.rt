@@ -5,6 +5,8 @@
 // strokes (writes and flushes) that are left. Every call is promised by what it makes of the meaning, so code
 // over `R: Rack` is proved once, for every rack. `survives` says what a fresh rack like this one may show after
 // a power cut, and `cut` proves that the cut rule allows it.
+#![tactic(auto)]
+
 ghost use Rattle.std.specs.Prelude.{◌≡◌, length};
 ghost use Rattle.rack.specs.Meaning.{Meaning, newest, written, flushed};
 ghost use Rattle.rack.specs.Cut.{Cut};

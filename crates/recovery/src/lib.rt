@@ -4,6 +4,8 @@
 // only after `turn`, and page changes only after `finish`. A format zeroes the head before anything else and writes
 // the new one last, each flushed, so a format that stops half-way leaves no head of a store that is only half there.
 // Recovery reads each log by itself, in any order, and writes nothing until finish ends the round.
+#![tactic(auto)]
+
 ghost use Rattle.std.specs.Prelude.{◌≡◌, ◌-◌, ◌<◌, ◌≤◌, true};
 ghost use Rattle.std.specs.Result.{result_err};
 ghost use Rattle.strokes.specs.Plan.{Plays, settled_run};

@@ -6,6 +6,8 @@
 //
 // A command more is a variant here with its clause in `said`, a function that reads its words, an arm in `named`, and
 // a line in `forms`.
+#![tactic(auto)]
+
 ghost use Rattle.std.specs.Prelude.{◌≡◌, IfOk};
 ghost use Rattle.std.specs.Option.{option_map};
 ghost use Rattle.std.specs.Str.{bytes_eq};

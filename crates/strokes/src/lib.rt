@@ -5,6 +5,8 @@
 // whose strokes all have a place can be refused for want of strokes only, so it is then made up to exactly as
 // many strokes as were left. Plans compose, and what can be read after one hangs on the plan alone, not on what
 // a rack settles early.
+#![tactic(auto)]
+
 ghost use Rattle.std.specs.Prelude.{◌≡◌, ◌-◌};
 ghost use Rattle.std.specs.Result.{result_err};
 ghost use Rattle.rack.specs.Answers.{answer, Leaves};

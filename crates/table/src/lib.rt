@@ -3,6 +3,8 @@
 // A warm store keeps its pages in a table of 64, however many pages it has. Recovery fills the table from its marks.
 // A round ends in an order that is meant for power cuts: the logs are settled before a page is written, and the pages
 // are settled before the head is raised.
+#![tactic(auto)]
+
 ghost use Rattle.std.specs.Prelude.{◌≡◌, ℕ, suc, ◌*◌, ◌<◌, ◌≤◌, length, slice_index, slice_index_or};
 ghost use Rattle.std.specs.Result.{result_err};
 ghost use Rattle.rack.specs.Answers.{answer, Leaves};

@@ -2,6 +2,8 @@
 //
 // A warm store keeps all it knows in plain numbers: the pages with their committed and working contents, the open
 // sets, and how far each log is filled in this round. Its calls come next; today recovery makes one.
+#![tactic(auto)]
+
 ghost use Rattle.std.specs.Prelude.{◌≡◌};
 ghost use Rattle.model.specs.Store.{Warm as WarmStore};
 ghost use Rattle.warm.specs.Views.{warm_in, fresh_warm};
