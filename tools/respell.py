@@ -15,6 +15,8 @@ TOKEN = r"[^\s(){}\[\],.;:\"`⟨⟩∣|]+"
 DECL = re.compile(r"^(?:(?:abbrev|unfoldable) )?(?:pub )?(" + TOKEN + r") :(?: |$)")
 HEAD = re.compile(r"^(?:abbrev |unfoldable )?(?:pub )?(?:record|data) (" + TOKEN + r")")
 FIELD = re.compile(r"^  (?:pub )?(" + TOKEN + r") :(?: |$)")
+# a declaration in a module with parameters is indented
+INNER = re.compile(r"^  (?:(?:abbrev|unfoldable) )?(?:pub )?(" + TOKEN + r") :(?: |$)")
 INDEX = re.compile(r"^--   (\S.*?)\s{3,}(\S.*)$")
 WRAPPED = re.compile(r"^--\s{10,}(\S.*)$")
 
@@ -37,7 +39,7 @@ def files(*ends):
 def declared():
     names = set()
     for f in files("specs/**/*.antt", "proofs/**/*.antt"):
-        within = False
+        within = inner = False
         for line in open(f, encoding="utf-8"):
             if line.startswith("--"):
                 continue
@@ -49,8 +51,12 @@ def declared():
             if within and FIELD.match(line):
                 names.add(FIELD.match(line)[1])
                 continue
+            if inner and INNER.match(line):
+                names.add(INNER.match(line)[1])
+                continue
             if line.strip() and not line.startswith(" "):
                 within = False
+                inner = line.startswith(("module ", "pub module "))
             decl = DECL.match(line)
             # a goal of a function is named by the check
             if decl and not re.search(r": (?:goal|given|loops?|goals)\.", line):

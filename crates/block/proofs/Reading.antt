@@ -23,18 +23,18 @@ module _ {C : Type 0} {Ok : C → Type 0} {block : C → List ℕ} {of : List �
   only c ok e = ap of (sym e) ∙ kind.back c ok
 
   -- the three reasons to read nothing
-  pub none-by-length : (length b ≡ 512 → ⊥) → ReadsBack Ok block b None
-  none-by-length not = none (λ c ok e. not (ap length (sym e) ∙ kind.long c ok))
+  pub none_by_length : (length b ≡ 512 → ⊥) → ReadsBack Ok block b None
+  none_by_length not = none (λ c ok e. not (ap length (sym e) ∙ kind.long c ok))
 
-  pub none-by-shape : (Shaped b → ⊥) → ReadsBack Ok block b None
-  none-by-shape not = none (λ c ok e. not (subst Shaped e (kind.shaped c ok)))
+  pub none_by_shape : (Shaped b → ⊥) → ReadsBack Ok block b None
+  none_by_shape not = none (λ c ok e. not (subst Shaped e (kind.shaped c ok)))
 
-  pub none-by-value : (Ok (of b) → ⊥) → ReadsBack Ok block b None
-  none-by-value not = none (λ c ok e. not (subst Ok (sym (only c ok e)) ok))
+  pub none_by_value : (Ok (of b) → ⊥) → ReadsBack Ok block b None
+  none_by_value not = none (λ c ok e. not (subst Ok (sym (only c ok e)) ok))
 
   -- and with none of them the bytes are a block
-  pub some-value : (m : C) → m ≡ of b → length b ≡ 512 → AllBytes b → Shaped b → Ok (of b) → ReadsBack Ok block b (Some m)
-  some-value m e long small shaped ok = λ c. (
+  pub some_value : (m : C) → m ≡ of b → length b ≡ 512 → AllBytes b → Shaped b → Ok (of b) → ReadsBack Ok block b (Some m)
+  some_value m e long small shaped ok = λ c. (
     (λ h. let k : of b ≡ c = sym e ∙ (cc) in let P : C → Type 0 = λ x. Ok x × (block x ≡ b) in subst P k (ok, kind.forth b long small shaped ok)),
     (λ h. ap Some (e ∙ only c h.0 h.1)),
   )

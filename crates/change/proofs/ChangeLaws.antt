@@ -19,8 +19,8 @@ make p r s t ps b a = record { page = p; round = r; set = s; step = t; pairs = p
 
 -- the parts of a block that was written
 module _ (v : Content) (ok : ChangeOk v) where
-  pub ok-total : total v.pairs ≤ 240
-  ok-total = omega (arith, total_bound 0 v.pairs (omega arith) (paired_parts v.pairs ok.paired).2)
+  pub ok_total : total v.pairs ≤ 240
+  ok_total = omega (arith, total_bound 0 v.pairs (omega arith) (paired_parts v.pairs ok.paired).2)
 
   few : length v.pairs ≤ 4
   few = (paired_parts v.pairs ok.paired).1
@@ -34,61 +34,61 @@ module _ (v : Content) (ok : ChangeOk v) where
   length_front : length front ≡ 32
   length_front = omega (arith, length-append (change_head v) (slot_bytes v.pairs), length_slot_bytes v.pairs few)
 
-  pub length-changeBlock : length (change_block v) ≡ 512
+  pub length_change_block : length (change_block v) ≡ 512
   unfolding change_block
-  length-changeBlock = omega (arith, length-append (slot_bytes v.pairs) (v.before ++ (v.after ++ tail)), length-append v.before (v.after ++ tail), length-append v.after tail, length_zeros (480 - 2 * total v.pairs), length_slot_bytes v.pairs few, ok.before, ok.after, ok-total)
+  length_change_block = omega (arith, length-append (slot_bytes v.pairs) (v.before ++ (v.after ++ tail)), length-append v.before (v.after ++ tail), length-append v.after tail, length_zeros (480 - 2 * total v.pairs), length_slot_bytes v.pairs few, ok.before, ok.after, ok_total)
 
-  slots-part : between 16 32 (change_block v) ≡ slot_bytes v.pairs
+  slots_part : between 16 32 (change_block v) ≡ slot_bytes v.pairs
   unfolding change_block
-  slots-part = between_at (change_head v) (slot_bytes v.pairs) (v.before ++ (v.after ++ tail)) 16 32 refl (length_slot_bytes v.pairs few)
+  slots_part = between_at (change_head v) (slot_bytes v.pairs) (v.before ++ (v.after ++ tail)) 16 32 refl (length_slot_bytes v.pairs few)
 
-  behind-front : change_block v ≡ front ++ (v.before ++ (v.after ++ tail))
+  behind_front : change_block v ≡ front ++ (v.before ++ (v.after ++ tail))
   unfolding change_block
-  behind-front = sym (append_assoc (change_head v) (slot_bytes v.pairs) (v.before ++ (v.after ++ tail)))
+  behind_front = sym (append_assoc (change_head v) (slot_bytes v.pairs) (v.before ++ (v.after ++ tail)))
 
-  before-part : between 32 (32 + total v.pairs) (change_block v) ≡ v.before
-  before-part =
-      ap (between 32 (32 + total v.pairs)) behind-front ∙ between_at front v.before (v.after ++ tail) 32 (32 + total v.pairs) length_front (ok.before ∙ omega arith)
+  before_part : between 32 (32 + total v.pairs) (change_block v) ≡ v.before
+  before_part =
+      ap (between 32 (32 + total v.pairs)) behind_front ∙ between_at front v.before (v.after ++ tail) 32 (32 + total v.pairs) length_front (ok.before ∙ omega arith)
 
-  behind-before : change_block v ≡ (front ++ v.before) ++ (v.after ++ tail)
-  behind-before = behind-front ∙ sym (append_assoc front v.before (v.after ++ tail))
+  behind_before : change_block v ≡ (front ++ v.before) ++ (v.after ++ tail)
+  behind_before = behind_front ∙ sym (append_assoc front v.before (v.after ++ tail))
 
   length_before : length (front ++ v.before) ≡ 32 + total v.pairs
   length_before = omega (arith, length-append front v.before, length_front, ok.before)
 
-  after-part : between (32 + total v.pairs) (32 + 2 * total v.pairs) (change_block v) ≡ v.after
-  after-part = ap (between (32 + total v.pairs) (32 + 2 * total v.pairs)) behind-before ∙ between_at (front ++ v.before) v.after tail (32 + total v.pairs) (32 + 2 * total v.pairs) length_before (ok.after ∙ omega arith)
+  after_part : between (32 + total v.pairs) (32 + 2 * total v.pairs) (change_block v) ≡ v.after
+  after_part = ap (between (32 + total v.pairs) (32 + 2 * total v.pairs)) behind_before ∙ between_at (front ++ v.before) v.after tail (32 + total v.pairs) (32 + 2 * total v.pairs) length_before (ok.after ∙ omega arith)
 
-  tail-part : drop (32 + 2 * total v.pairs) (change_block v) ≡ tail
-  tail-part =
-      let e = behind-before ∙ sym (append_assoc (front ++ v.before) v.after tail) in
+  tail_part : drop (32 + 2 * total v.pairs) (change_block v) ≡ tail
+  tail_part =
+      let e = behind_before ∙ sym (append_assoc (front ++ v.before) v.after tail) in
       ap (drop (32 + 2 * total v.pairs)) e ∙ drop_at ((front ++ v.before) ++ v.after) tail (32 + 2 * total v.pairs) (omega (arith, length-append (front ++ v.before) v.after, length_before, ok.after))
 
-  pairs-part : pairs_of (change_block v) ≡ v.pairs
+  pairs_part : pairs_of (change_block v) ≡ v.pairs
   unfolding change_block
-  pairs-part = ap (pairs_in (length v.pairs)) slots-part ∙ pairs_in_written v.pairs 0 (zeros (16 - 4 * length v.pairs)) (paired_parts v.pairs ok.paired).2
+  pairs_part = ap (pairs_in (length v.pairs)) slots_part ∙ pairs_in_written v.pairs 0 (zeros (16 - 4 * length v.pairs)) (paired_parts v.pairs ok.paired).2
 
   -- reading what was written
-  with-parts : content_with (change_block v) v.pairs (total v.pairs) ≡ v
+  with_parts : content_with (change_block v) v.pairs (total v.pairs) ≡ v
   unfolding change_block
-  with-parts =
+  with_parts =
       let p = at2_bytes2 v.page ok.page in
       let r = at4_bytes4 v.round ok.round in
       let s : v.set % 256 ≡ v.set = omega (arith, ok.set) in
       let t = at4_bytes4 v.step ok.step in
-      let x = before-part in
-      let y = after-part in
+      let x = before_part in
+      let y = after_part in
       let e : make (at2 (bytes2 v.page) 0) (at4 (bytes4 v.round) 0) (v.set % 256) (at4 (bytes4 v.step) 0) v.pairs (between 32 (32 + total v.pairs) (change_block v)) (between (32 + total v.pairs) (32 + 2 * total v.pairs) (change_block v)) ≡ make v.page v.round v.set v.step v.pairs v.before v.after = cc in
       e
 
-  pub contentOf-changeBlock : content_of (change_block v) ≡ v
+  pub content_of_change_block : content_of (change_block v) ≡ v
   unfolding content_of
-  contentOf-changeBlock = ap (λ ps. content_with (change_block v) ps (total ps)) pairs-part ∙ with-parts
+  content_of_change_block = ap (λ ps. content_with (change_block v) ps (total ps)) pairs_part ∙ with_parts
 
-  change-marked : Marked (change_block v)
+  change_marked : Marked (change_block v)
   unfolding change_block
-  change-marked =
-      let e = sym (drop_of_between (change_block v) 16 32 (4 * length v.pairs)) ∙ ap (drop (4 * length v.pairs)) slots-part ∙ drop_at (flat_map pair_bytes v.pairs) (zeros (16 - 4 * length v.pairs)) (4 * length v.pairs) (length_pairs_bytes v.pairs) in
+  change_marked =
+      let e = sym (drop_of_between (change_block v) 16 32 (4 * length v.pairs)) ∙ ap (drop (4 * length v.pairs)) slots_part ∙ drop_at (flat_map pair_bytes v.pairs) (zeros (16 - 4 * length v.pairs)) (4 * length v.pairs) (length_pairs_bytes v.pairs) in
       record {
         first = refl;
         few = few;
@@ -96,26 +96,26 @@ module _ (v : Content) (ok : ChangeOk v) where
         behind_pairs = zero_each _ _ e;
       }
 
-  change-shaped : ChangeShaped (change_block v)
-  change-shaped =
+  change_shaped : ChangeShaped (change_block v)
+  change_shaped =
       let Rest : List Pair → Type 0 = λ ps. AllZero (between (32 + 2 * total ps) 512 (change_block v)) in
       record {
-        marked = change-marked;
-        rest = subst Rest (sym pairs-part) (zero_tail (change_block v) (32 + 2 * total v.pairs) 512 length-changeBlock (tail-part ∙ ap zeros (omega arith)));
+        marked = change_marked;
+        rest = subst Rest (sym pairs_part) (zero_tail (change_block v) (32 + 2 * total v.pairs) 512 length_change_block (tail_part ∙ ap zeros (omega arith)));
       }
 
   -- the block as a writer joins it
-  pub assembled-is : (r h s : List ℕ) → r ≡ h ++ (s ++ (v.before ++ (v.after ++ zeros (480 - (length v.before + length v.after))))) → h ≡ change_head v → s ≡ flat_map pair_bytes (slots_of v.pairs) → r ≡ change_block v
+  pub assembled_is : (r h s : List ℕ) → r ≡ h ++ (s ++ (v.before ++ (v.after ++ zeros (480 - (length v.before + length v.after))))) → h ≡ change_head v → s ≡ flat_map pair_bytes (slots_of v.pairs) → r ≡ change_block v
   unfolding change_block
-  assembled-is r h s d e f =
+  assembled_is r h s d e f =
       let n : 480 - (length v.before + length v.after) ≡ 480 - 2 * total v.pairs = omega (arith, ok.before, ok.after) in
       let g = f ∙ slots_bytes v.pairs few in
       d ∙ ap (λ k. h ++ (s ++ (v.before ++ (v.after ++ zeros k)))) n ∙ ap (λ x. x ++ (s ++ (v.before ++ (v.after ++ tail)))) e ∙ ap (λ x. change_head v ++ (x ++ (v.before ++ (v.after ++ tail)))) g
 
 -- writing what was read
 module _ (b : List ℕ) (long : length b ≡ 512) (small : AllBytes b) where
-  slots-again : (n : ℕ) → n ≤ 4 → AllZero (between (16 + 4 * n) 32 b) → slot_bytes (pairs_in n (between 16 32 b)) ≡ between 16 32 b
-  slots-again n few zero =
+  slots_again : (n : ℕ) → n ≤ 4 → AllZero (between (16 + 4 * n) 32 b) → slot_bytes (pairs_in n (between 16 32 b)) ≡ between 16 32 b
+  slots_again n few zero =
       let l : length (between 16 32 b) ≡ 16 = length-between b 16 32 (omega arith) in
       let w = written_pairs_in n (between 16 32 b) (omega arith) (bytes_between b 16 32 small) in
       let z = drop_of_between b 16 32 (4 * n) ∙ part_is_zeros b (16 + 4 * n) 32 (omega arith) zero in
@@ -123,8 +123,8 @@ module _ (b : List ℕ) (long : length b ≡ 512) (small : AllBytes b) where
       let k : 32 - (16 + 4 * n) ≡ 16 - 4 * n = omega arith in
       cc
 
-  head-again : (ps : List Pair) (t : ℕ) → Marked b → length ps ≡ get_or b 1 0 → change_head (content_with b ps t) ++ drop 16 b ≡ b
-  head-again ps t mark n =
+  head_again : (ps : List Pair) (t : ℕ) → Marked b → length ps ≡ get_or b 1 0 → change_head (content_with b ps t) ++ drop 16 b ≡ b
+  head_again ps t mark n =
       let d0 : b ≡ bytes_from b 0 9 ++ drop 9 b = drop_bytes_from b 0 9 (omega arith) in
       let d9 = drop_between b 9 12 (omega arith) in
       let d12 = drop_bytes_from b 12 4 (omega arith) in
@@ -136,8 +136,8 @@ module _ (b : List ℕ) (long : length b ≡ 512) (small : AllBytes b) where
       let q = bytes4_at4 b 12 small in
       cc
 
-  rest-again : (t : ℕ) → t ≤ 240 → AllZero (between (32 + 2 * t) 512 b) → between 16 32 b ++ (between 32 (32 + t) b ++ (between (32 + t) (32 + 2 * t) b ++ zeros (480 - 2 * t))) ≡ drop 16 b
-  rest-again t fits rest =
+  rest_again : (t : ℕ) → t ≤ 240 → AllZero (between (32 + 2 * t) 512 b) → between 16 32 b ++ (between 32 (32 + t) b ++ (between (32 + t) (32 + 2 * t) b ++ zeros (480 - 2 * t))) ≡ drop 16 b
+  rest_again t fits rest =
       let d16 = drop_between b 16 32 (omega arith) in
       let d32 = drop_between b 32 (32 + t) (omega arith) in
       let dt = drop_between b (32 + t) (32 + 2 * t) (omega arith) in
@@ -145,20 +145,20 @@ module _ (b : List ℕ) (long : length b ≡ 512) (small : AllBytes b) where
       let k : 512 - (32 + 2 * t) ≡ 480 - 2 * t = omega arith in
       cc
 
-  pub changeBlock-contentOf : ChangeShaped b → ChangeOk (content_of b) → change_block (content_of b) ≡ b
+  pub change_block_content_of : ChangeShaped b → ChangeOk (content_of b) → change_block (content_of b) ≡ b
   unfolding content_of change_block
-  changeBlock-contentOf s ok =
+  change_block_content_of s ok =
       let ps = pairs_of b in
       let t = total (pairs_of b) in
       let h = change_head (content_of b) in
-      ap (λ x. h ++ (x ++ (between 32 (32 + t) b ++ (between (32 + t) (32 + 2 * t) b ++ zeros (480 - 2 * t))))) (slots-again (get_or b 1 0) s.marked.few s.marked.behind_pairs)
-      ∙ ap (λ x. h ++ x) (rest-again t (ok-total (content_of b) ok) s.rest)
-      ∙ head-again ps t s.marked (length_pairs_in (get_or b 1 0) (between 16 32 b))
+      ap (λ x. h ++ (x ++ (between 32 (32 + t) b ++ (between (32 + t) (32 + 2 * t) b ++ zeros (480 - 2 * t))))) (slots_again (get_or b 1 0) s.marked.few s.marked.behind_pairs)
+      ∙ ap (λ x. h ++ x) (rest_again t (ok_total (content_of b) ok) s.rest)
+      ∙ head_again ps t s.marked (length_pairs_in (get_or b 1 0) (between 16 32 b))
 
 pub changes : Layout ChangeOk change_block content_of ChangeShaped
 changes = record {
-  long = length-changeBlock;
-  back = contentOf-changeBlock;
-  shaped = change-shaped;
-  forth = changeBlock-contentOf;
+  long = length_change_block;
+  back = content_of_change_block;
+  shaped = change_shaped;
+  forth = change_block_content_of;
 }

@@ -29,17 +29,17 @@ total_bound from (p ∷ ps) f h =
 
 -- a walk over the pairs ps, which has come to place i
 module _ (ps : List Pair) (i : ℕ) (from : ℕ) where
-  order-more : i < length ps → in_order from (drop i ps) ≡ (follows from (get_or ps i no_pair) && in_order (end_of (get_or ps i no_pair)) (drop (i + 1) ps))
-  order-more h = at_drop_more (in_order from) ps i no_pair h
+  order_more : i < length ps → in_order from (drop i ps) ≡ (follows from (get_or ps i no_pair) && in_order (end_of (get_or ps i no_pair)) (drop (i + 1) ps))
+  order_more h = at_drop_more (in_order from) ps i no_pair h
 
-  pub order-stops : (all : Bool) → i < length ps → false ≡ follows from (get_or ps i no_pair) → in_order from (drop i ps) ≡ all → all ≡ false
-  order-stops all h f e = sym e ∙ order-more h ∙ and_left _ _ (sym f)
+  pub order_stops : (all : Bool) → i < length ps → false ≡ follows from (get_or ps i no_pair) → in_order from (drop i ps) ≡ all → all ≡ false
+  order_stops all h f e = sym e ∙ order_more h ∙ and_left _ _ (sym f)
 
-  pub order-goes : i < length ps → true ≡ follows from (get_or ps i no_pair) → in_order (end_of (get_or ps i no_pair)) (drop (i + 1) ps) ≡ in_order from (drop i ps)
-  order-goes h f = sym (order-more h ∙ ap (λ b. b && in_order (end_of (get_or ps i no_pair)) (drop (i + 1) ps)) (sym f))
+  pub order_goes : i < length ps → true ≡ follows from (get_or ps i no_pair) → in_order (end_of (get_or ps i no_pair)) (drop (i + 1) ps) ≡ in_order from (drop i ps)
+  order_goes h f = sym (order_more h ∙ ap (λ b. b && in_order (end_of (get_or ps i no_pair)) (drop (i + 1) ps)) (sym f))
 
-  pub order-ends : (all : Bool) → length ps ≤ i → in_order from (drop i ps) ≡ all → all ≡ true
-  order-ends all h e = sym e ∙ at_drop_all (in_order from) ps i h
+  pub order_ends : (all : Bool) → length ps ≤ i → in_order from (drop i ps) ≡ all → all ≡ true
+  order_ends all h e = sym e ∙ at_drop_all (in_order from) ps i h
 
 pub total_more : (i : ℕ) (ps : List Pair) → i < length ps → total (drop i ps) ≡ (get_or ps i no_pair).length + total (drop (i + 1) ps)
 total_more i ps h = at_drop_more total ps i no_pair h

@@ -20,9 +20,9 @@ no_answer false t e = refl
 
 module _ (b : List ℕ) (ps : List Pair) (found : ps ≡ pairs_of b) where
   -- no sum: these pairs stand in no change
-  pub no-sum : None ≡ total_in ps → ChangeOk (content_of b) → ⊥
+  pub no_sum : None ≡ total_in ps → ChangeOk (content_of b) → ⊥
   unfolding content_of
-  no-sum e ok = both_ways (well_paired ps) (no_answer (well_paired ps) (total ps) e) (ap well_paired found ∙ ok.paired)
+  no_sum e ok = both_ways (well_paired ps) (no_answer (well_paired ps) (total ps) e) (ap well_paired found ∙ ok.paired)
 
   module _ (s : ℕ) (sum : Some s ≡ total_in ps) where
     sum_is : s ≡ total (pairs_of b)

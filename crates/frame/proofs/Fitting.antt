@@ -13,15 +13,15 @@ blocks_there m d h = sym (cond_below d m.count (m.size d) 0 h)
 
 -- 9 sizes say all of a rack with at most 9 drives
 module _ (m : Meaning) (a : List ℕ) (nine : length a ≡ 9) (each : (d : ℕ) → d < 9 → get_or a d 0 ≡ blocks_on m d) where
-  all-sizes : m.count ≤ 9 → (d : ℕ) → get_or a d 0 ≡ blocks_on m d
-  all-sizes few d =
+  all_sizes : m.count ≤ 9 → (d : ℕ) → get_or a d 0 ≡ blocks_on m d
+  all_sizes few d =
       ⊎_elim
       (λ (h : d < 9). each d h)
       (λ (h : 9 ≤ d). cond_above d m.count (m.size d) 0 (get_or a d 0) (omega arith) (get_or_past a d 0 (omega arith)))
       (cases_lt d 9)
 
-  pub shape-of-sizes : (pages n : ℕ) → n ≡ m.count → n ≤ 9 → ◌≡◌ {A = Shape} (record { pages = pages; logs = n - 1; blocks = λ d. get_or a d 0 }) (shape_of pages m)
-  shape-of-sizes pages n e few = λ i. record { pages = pages; logs = e i - 1; blocks = λ d. all-sizes (omega arith) d i }
+  pub shape_of_sizes : (pages n : ℕ) → n ≡ m.count → n ≤ 9 → ◌≡◌ {A = Shape} (record { pages = pages; logs = n - 1; blocks = λ d. get_or a d 0 }) (shape_of pages m)
+  shape_of_sizes pages n e few = λ i. record { pages = pages; logs = e i - 1; blocks = λ d. all_sizes (omega arith) d i }
 
 -- the rack m has the drives of the shape z, and no others
 pub record FitsFacts (z : Shape) (m : Meaning) : Type 0 where

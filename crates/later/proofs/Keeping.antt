@@ -5,20 +5,20 @@ use Rattle.later.specs.Order.{TotalOrder}
 use Rattle.later.specs.Keeping.{later, latest, Among, SameMembers}
 
 module _ {V : Type 0} {upto : V → V → Bool} (o : TotalOrder upto) where
-  pub first-upto : (x y : V) → upto x (later upto x y) ≡ true
-  first-upto x y = let r = o.reflexive x in let d = cases_Bool (upto x y) in grind arith
+  pub first_upto : (x y : V) → upto x (later upto x y) ≡ true
+  first_upto x y = let r = o.reflexive x in let d = cases_Bool (upto x y) in grind arith
 
-  pub second-upto : (x y : V) → upto y (later upto x y) ≡ true
-  second-upto x y = let r = o.reflexive y in let t = o.total x y in let d = cases_Bool (upto x y) in grind arith
+  pub second_upto : (x y : V) → upto y (later upto x y) ≡ true
+  second_upto x y = let r = o.reflexive y in let t = o.total x y in let d = cases_Bool (upto x y) in grind arith
 
-  pub start-upto : (k : V) (xs : List V) → upto k (latest upto k xs) ≡ true
-  start-upto k [] = o.reflexive k
-  start-upto k (x ∷ xs) = o.transitive k (later upto k x) _ (first-upto k x) (start-upto (later upto k x) xs)
+  pub start_upto : (k : V) (xs : List V) → upto k (latest upto k xs) ≡ true
+  start_upto k [] = o.reflexive k
+  start_upto k (x ∷ xs) = o.transitive k (later upto k x) _ (first_upto k x) (start_upto (later upto k x) xs)
 
   pub none_later : (k : V) (xs : List V) (x : V) → Among x (k ∷ xs) → upto x (latest upto k xs) ≡ true
-  none_later k xs x (inl e) = rw e (start-upto k xs)
+  none_later k xs x (inl e) = rw e (start_upto k xs)
   none_later k [] x (inr m) = elim m [ ]
-  none_later k (y ∷ ys) x (inr (inl e)) = rw e (o.transitive y (later upto k y) _ (second-upto k y) (start-upto (later upto k y) ys))
+  none_later k (y ∷ ys) x (inr (inl e)) = rw e (o.transitive y (later upto k y) _ (second_upto k y) (start_upto (later upto k y) ys))
   none_later k (y ∷ ys) x (inr (inr m)) = none_later (later upto k y) ys x (inr m)
 
   pub met : (k : V) (xs : List V) → Among (latest upto k xs) (k ∷ xs)
@@ -32,8 +32,8 @@ module _ {V : Type 0} {upto : V → V → Bool} (o : TotalOrder upto) where
       go (inl e) = ⊎_elim (λ p. inr (inl p)) (λ p. inl p) (cases_cond (upto k x) x k v e)
       go (inr m) = inr (inr m)
 
-  upto-same : (k : V) (xs ys : List V) → ((x : V) → Among x xs → Among x ys) → upto (latest upto k xs) (latest upto k ys) ≡ true
-  upto-same k xs ys f = none_later k ys _ (⊎_elim (λ e. inl e) (λ m. inr (f _ m)) (met k xs))
+  upto_same : (k : V) (xs ys : List V) → ((x : V) → Among x xs → Among x ys) → upto (latest upto k xs) (latest upto k ys) ≡ true
+  upto_same k xs ys f = none_later k ys _ (⊎_elim (λ e. inl e) (λ m. inr (f _ m)) (met k xs))
 
   pub same : (k : V) (xs ys : List V) → SameMembers xs ys → latest upto k xs ≡ latest upto k ys
-  same k xs ys f = o.antisymmetric _ _ (upto-same k xs ys (λ x. (f x).0)) (upto-same k ys xs (λ x. (f x).1))
+  same k xs ys f = o.antisymmetric _ _ (upto_same k xs ys (λ x. (f x).0)) (upto_same k ys xs (λ x. (f x).1))

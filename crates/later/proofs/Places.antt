@@ -7,9 +7,9 @@ use Rattle.later.specs.Keeping.{later, latest, kept_later, kept_all, came_to, Am
 use Rattle.later.proofs.Keeping.{met, none_later, same}
 
 module _ {V : Type 0} (upto : V → V → Bool) where
-  pub length-keptAll : (l : List V) (cs : List (ℕ × V)) → length (kept_all upto l cs) ≡ length l
-  length-keptAll l [] = refl
-  length-keptAll l (c ∷ cs) = length-keptAll (kept_later upto l c.0 c.1) cs ∙ length-set l c.0 _
+  pub length_kept_all : (l : List V) (cs : List (ℕ × V)) → length (kept_all upto l cs) ≡ length l
+  length_kept_all l [] = refl
+  length_kept_all l (c ∷ cs) = length_kept_all (kept_later upto l c.0 c.1) cs ∙ length-set l c.0 _
 
   -- a value that came to another place changes nothing here
   pub place_kept : (l : List V) (j i : ℕ) (x d : V) → i < length l → get_or (kept_later upto l j x) i d ≡ cond (eqb j i) (later upto (get_or l i d) x) (get_or l i d)
@@ -19,31 +19,31 @@ module _ {V : Type 0} (upto : V → V → Bool) where
       go true e = rw (eqb-true j i e) (get_or-set_same l i _ d h ∙ ap (λ (y : V). later upto y x) (get_or_default l i x d h))
       go false e = let ne : i ≢ j = λ p. eqb-false j i e (sym p) in get_or-set_other l j i _ d ne
 
-  latest-if : (t : Bool) (k x : V) (xs : List V) → latest upto (cond t (later upto k x) k) xs ≡ latest upto k (cond t (x ∷ xs) xs)
-  latest-if true k x xs = refl
-  latest-if false k x xs = refl
+  latest_if : (t : Bool) (k x : V) (xs : List V) → latest upto (cond t (later upto k x) k) xs ≡ latest upto k (cond t (x ∷ xs) xs)
+  latest_if true k x xs = refl
+  latest_if false k x xs = refl
 
   pub places : (l : List V) (cs : List (ℕ × V)) (i : ℕ) (d : V) → i < length l → get_or (kept_all upto l cs) i d ≡ latest upto (get_or l i d) (came_to i cs)
   places l [] i d h = refl
   places l (c ∷ cs) i d h =
       places (kept_later upto l c.0 c.1) cs i d (simp length-set h) ∙
       ap (λ (x : V). latest upto x (came_to i cs)) (place_kept l c.0 i c.1 d h) ∙
-      latest-if (eqb c.0 i) (get_or l i d) c.1 (came_to i cs)
+      latest_if (eqb c.0 i) (get_or l i d) c.1 (came_to i cs)
 
 module _ {V : Type 0} where
-  among-if : (t : Bool) (x y : V) (ys : List V) → Among x ys → Among x (cond t (y ∷ ys) ys)
-  among-if true x y ys m = inr m
-  among-if false x y ys m = m
+  among_if : (t : Bool) (x y : V) (ys : List V) → Among x ys → Among x (cond t (y ∷ ys) ys)
+  among_if true x y ys m = inr m
+  among_if false x y ys m = m
 
   -- to come to a place, and to be among what came to it, are one
-  pub came-among : (i : ℕ) (x : V) (cs : List (ℕ × V)) → Among (i, x) cs → Among x (came_to i cs)
-  came-among i x [] m = elim m [ ]
-  came-among i x (c ∷ cs) (inl e) = rw (eq-eqb c.0 i (cc)) (inl (cc))
-  came-among i x (c ∷ cs) (inr m) = among-if (eqb c.0 i) x c.1 (came_to i cs) (came-among i x cs m)
+  pub came_among : (i : ℕ) (x : V) (cs : List (ℕ × V)) → Among (i, x) cs → Among x (came_to i cs)
+  came_among i x [] m = elim m [ ]
+  came_among i x (c ∷ cs) (inl e) = rw (eq-eqb c.0 i (cc)) (inl (cc))
+  came_among i x (c ∷ cs) (inr m) = among_if (eqb c.0 i) x c.1 (came_to i cs) (came_among i x cs m)
 
-  pub among-came : (i : ℕ) (x : V) (cs : List (ℕ × V)) → Among x (came_to i cs) → Among (i, x) cs
-  among-came i x [] m = elim m [ ]
-  among-came i x (c ∷ cs) m = go (eqb c.0 i) refl (among-came i x cs) m
+  pub among_came : (i : ℕ) (x : V) (cs : List (ℕ × V)) → Among x (came_to i cs) → Among (i, x) cs
+  among_came i x [] m = elim m [ ]
+  among_came i x (c ∷ cs) m = go (eqb c.0 i) refl (among_came i x cs) m
     where
       go : (t : Bool) → eqb c.0 i ≡ t → (Among x (came_to i cs) → Among (i, x) cs) → Among x (cond t (c.1 ∷ came_to i cs) (came_to i cs)) → Among (i, x) (c ∷ cs)
       go true e f (inl p) = let q = eqb-true c.0 i e in let r : ◌≡◌ {A = ℕ × V} (i, x) (c.0, c.1) = cc in inl r
@@ -51,14 +51,14 @@ module _ {V : Type 0} where
       go false e f n = inr (f n)
 
   pub came_same : (i : ℕ) (cs ds : List (ℕ × V)) → SameMembers cs ds → SameMembers (came_to i cs) (came_to i ds)
-  came_same i cs ds f x = (λ m. came-among i x ds ((f (i, x)).0 (among-came i x cs m)), λ m. came-among i x cs ((f (i, x)).1 (among-came i x ds m)))
+  came_same i cs ds f x = (λ m. came_among i x ds ((f (i, x)).0 (among_came i x cs m)), λ m. came_among i x cs ((f (i, x)).1 (among_came i x ds m)))
 
 module _ {V : Type 0} {upto : V → V → Bool} (o : TotalOrder upto) where
   same_list : (l : List V) (cs ds : List (ℕ × V)) → SameMembers cs ds → kept_all upto l cs ≡ kept_all upto l ds
   same_list l cs ds f =
-      same_lists _ _ (length-keptAll upto l cs ∙ sym (length-keptAll upto l ds)) (λ i d h.
-      let g : i < length l = rw (length-keptAll upto l cs) at h in
+      same_lists _ _ (length_kept_all upto l cs ∙ sym (length_kept_all upto l ds)) (λ i d h.
+      let g : i < length l = rw (length_kept_all upto l cs) at h in
       places upto l cs i d g ∙ same o (get_or l i d) _ _ (came_same i cs ds f) ∙ sym (places upto l ds i d g))
 
-  pub keeps-the-latest : KeepsTheLatest upto
-  keeps-the-latest = record { met = met o; none_later = none_later o; same = same o; places = places upto; same_list = same_list }
+  pub keeps_the_latest : KeepsTheLatest upto
+  keeps_the_latest = record { met = met o; none_later = none_later o; same = same o; places = places upto; same_list = same_list }

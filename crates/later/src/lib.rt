@@ -29,7 +29,7 @@ pub trait Ranked {
 
 // The later of the two.
 fn later_of<T: Ranked + Copy>(old: T, new: T) -> T
-    ensures { result ≡ later upto old new }
+    ensures { result ≡ later T.upto old new }
 {
     if old.is_upto(&new) { new } else { old }
 }
@@ -37,8 +37,8 @@ fn later_of<T: Ranked + Copy>(old: T, new: T) -> T
 // Keeps in one place of the slice the later of what is there and the new value. A place past the end changes
 // nothing.
 pub fn keep_later<T: Ranked + Copy>(kept: &mut [T], at: usize, new: T)
-    ensures after { kept.new ≡ kept_later upto kept.old at new }
-    ensures lawful { KeepsTheLatest upto }
+    ensures after { kept.new ≡ kept_later T.upto kept.old at new }
+    ensures lawful { KeepsTheLatest T.upto }
 {
     if at < kept.len() {
         kept[at] = later_of(kept[at], new);

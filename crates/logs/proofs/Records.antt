@@ -50,15 +50,15 @@ only_change b v e f = is_change b v (no_commit v b e) f
 
 -- what is no change offers nothing and names nothing
 module _ (b : Block) (e : None ≡ change_in b) where
-  pub offers-none : (numbers : List ℕ) (pages d k : ℕ) → offered numbers pages d k (record_in b) ≡ []
-  offers-none numbers pages d k = rw (sym e) (go (commit_in b))
+  pub offers_none : (numbers : List ℕ) (pages d k : ℕ) → offered numbers pages d k (record_in b) ≡ []
+  offers_none numbers pages d k = rw (sym e) (go (commit_in b))
     where
       go : (o : Option Commit) → offered numbers pages d k (either_in o None) ≡ []
       go (Some c) = refl
       go None = refl
 
-  pub names-none : (pages : ℕ) → named pages (record_in b) ≡ []
-  names-none pages = rw (sym e) (go (commit_in b))
+  pub names_none : (pages : ℕ) → named pages (record_in b) ≡ []
+  names_none pages = rw (sym e) (go (commit_in b))
     where
       go : (o : Option Commit) → named pages (either_in o None) ≡ []
       go (Some c) = refl

@@ -29,11 +29,11 @@ module _ (s : Stamp) (start : ℕ) (ps : List Pair) (bytes : List ℕ) (l : List
   abbrev pair : Pair
   pair = get_or ps i no_pair
 
-  pub pairs-more : (k : List Mark) → i < length ps → k ≡ kept_all mark_upto l (stamped s (start + pair.offset) (between from (from + pair.length) bytes)) → kept_all mark_upto k (spread s start (drop (i + 1) ps) (drop (from + pair.length) bytes)) ≡ kept_all mark_upto l (spread s start (drop i ps) (drop from bytes))
-  pairs-more k h e =
+  pub pairs_more : (k : List Mark) → i < length ps → k ≡ kept_all mark_upto l (stamped s (start + pair.offset) (between from (from + pair.length) bytes)) → kept_all mark_upto k (spread s start (drop (i + 1) ps) (drop (from + pair.length) bytes)) ≡ kept_all mark_upto l (spread s start (drop i ps) (drop from bytes))
+  pairs_more k h e =
       let n : from + pair.length - from ≡ pair.length = omega arith in
       rw (e, n, drop_more ps i no_pair h, sym (drop-drop pair.length from bytes))
       (sym (kept_all-++ mark_upto l (stamped s (start + pair.offset) (take pair.length (drop from bytes))) (spread s start (drop (i + 1) ps) (drop pair.length (drop from bytes)))))
 
-  pub pairs-all : length ps ≤ i → kept_all mark_upto l (spread s start (drop i ps) (drop from bytes)) ≡ l
-  pairs-all h = rw (drop_all i ps h) refl
+  pub pairs_all : length ps ≤ i → kept_all mark_upto l (spread s start (drop i ps) (drop from bytes)) ≡ l
+  pairs_all h = rw (drop_all i ps h) refl

@@ -17,8 +17,8 @@ pub record Gathers {X : Type 0} (from : ℕ → ℕ → List X) (at : ℕ → Li
 
 module _ {S X : Type 0} {put : S → List X → S} {from : ℕ → ℕ → List X} {at : ℕ → List X} (p : Puts put) (g : Gathers from at) where
   -- what was left with block b is left without it, once it is put in
-  pub scan-more : (s t : S) (b n : ℕ) → b < n → t ≡ put s (at b) → put t (from (b + 1) (n - (b + 1))) ≡ put s (from b (n - b))
-  scan-more s t b n h e =
+  pub scan_more : (s t : S) (b n : ℕ) → b < n → t ≡ put s (at b) → put t (from (b + 1) (n - (b + 1))) ≡ put s (from b (n - b))
+  scan_more s t b n h e =
       let k : n - b ≡ suc (n - (b + 1)) = omega arith in
       let i : suc b ≡ b + 1 = omega arith in
       let m = g.more b (n - (b + 1)) in
@@ -26,8 +26,8 @@ module _ {S X : Type 0} {put : S → List X → S} {from : ℕ → ℕ → List 
       cc
 
   -- behind the last block nothing is left
-  pub scan-all : (s : S) (b n : ℕ) → n ≤ b → put s (from b (n - b)) ≡ s
-  scan-all s b n h =
+  pub scan_all : (s : S) (b n : ℕ) → n ≤ b → put s (from b (n - b)) ≡ s
+  scan_all s b n h =
       let k : n - b ≡ 0 = omega arith in
       let e = g.none b in
       let j = p.nothing s in

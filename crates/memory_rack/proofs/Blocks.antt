@@ -48,8 +48,8 @@ module _ (xs : List ℕ) (i p : ℕ) (v : List ℕ) (whole : 512 * i + 512 ≤ l
       ap (take 512) (drop_over (512 * i) xs p v (omega arith)) ∙
       subst (λ n. take n (over ys p v) ≡ over (take n ys) p v) e (take_over ys p v (512 - (p + length v)) (rw length-drop (omega arith)))
 
-  pub block-other : (j : ℕ) → (j ≡ i → ⊥) → block_at (over xs (512 * i + p) v) j ≡ block_at xs j
-  block-other j ne = go (cases_order j i)
+  pub block_other : (j : ℕ) → (j ≡ i → ⊥) → block_at (over xs (512 * i + p) v) j ≡ block_at xs j
+  block_other j ne = go (cases_order j i)
     where
       front : j < i → take (512 * j + 512) (over xs (512 * i + p) v) ≡ take (512 * j + 512) xs
       front lt =

@@ -7,25 +7,25 @@ use Rattle.rack.specs.Answers.{answer, or_old, read_fault, write_fault}
 use Rattle.memory_rack.specs.Memory.{Kept, block_at, place_of, placed, shown, memory_of, over, put, cleared, struck, poke_fault, tear_fault, poked, torn, wrote, ReadsOnly}
 use Rattle.memory_rack.proofs.Blocks.{over_all, part_is}
 use Rattle.memory_rack.proofs.Places.{Lies, some_lies}
-use Rattle.memory_rack.proofs.Changes.{touches-reads, put-touches, cleared-touches, reads_early}
+use Rattle.memory_rack.proofs.Changes.{touches_reads, put_touches, cleared_touches, reads_early}
 
 module _ (k : Kept) (d b i : ℕ) (found : Some i ≡ placed k d b) where
   lies : Lies k d b i
   lies = some_lies k d b i found
 
   -- the bytes at the place are the block's
-  memory-is : block_at k.bytes i ≡ memory_of k d b
-  memory-is = ap (block_at k.bytes) lies.place
+  memory_is : block_at k.bytes i ≡ memory_of k d b
+  memory_is = ap (block_at k.bytes) lies.place
 
   put_reads : (p : ℕ) (v : List ℕ) → p + length v ≤ 512 → ReadsOnly (shown k) (shown (put k i p v)) d b (Some (over (memory_of k d b) p v))
-  put_reads p v h = subst (λ w. ReadsOnly (shown k) (shown (put k i p v)) d b (Some (over w p v))) memory-is (touches-reads k (put k i p v) d b i _ lies (put-touches k d b i lies p v h))
+  put_reads p v h = subst (λ w. ReadsOnly (shown k) (shown (put k i p v)) d b (Some (over w p v))) memory_is (touches_reads k (put k i p v) d b i _ lies (put_touches k d b i lies p v h))
 
-  pub tear-done : (j : Kept) → j ≡ cleared k i → (Ok tt ≡ answer (tear_fault k d b)) × (j ≡ torn k d b) × ReadsOnly (shown k) (shown j) d b None
-  tear-done j e = (rw lies.shows refl, e ∙ rw lies.shows (ap (cleared k) lies.place), rw e (touches-reads k (cleared k i) d b i None lies (cleared-touches k d b i lies)))
+  pub tear_done : (j : Kept) → j ≡ cleared k i → (Ok tt ≡ answer (tear_fault k d b)) × (j ≡ torn k d b) × ReadsOnly (shown k) (shown j) d b None
+  tear_done j e = (rw lies.shows refl, e ∙ rw lies.shows (ap (cleared k) lies.place), rw e (touches_reads k (cleared k i) d b i None lies (cleared_touches k d b i lies)))
 
-  pub poke-done : (p : ℕ) (v : List ℕ) (j : Kept) → p + length v ≤ 512 → j ≡ put k i p v →
+  pub poke_done : (p : ℕ) (v : List ℕ) (j : Kept) → p + length v ≤ 512 → j ≡ put k i p v →
       (Ok tt ≡ answer (poke_fault k d b p (length v))) × (j ≡ poked k d b p v) × ReadsOnly (shown k) (shown j) d b (Some (over (memory_of k d b) p v))
-  poke-done p v j h e =
+  poke_done p v j h e =
       let clear : poke_fault k d b p (length v) ≡ None = rw (lies.shows, le-leb (p + length v) 512 h) refl in
       (rw clear refl, e ∙ rw clear (ap (λ n. put k n p v) lies.place), rw e (put_reads p v h))
 
@@ -47,7 +47,7 @@ module _ (k : Kept) (d b i : ℕ) (found : Some i ≡ placed k d b) where
   pub read_done : (n : ℕ) (part old : Block) → n ≡ 512 → (get_or k.marks i 0 ≡ 0 → ⊥) → part ≡ take (512 * i + 512 - 512 * i) (drop (512 * i) k.bytes) →
       (Ok tt ≡ answer (read_fault (shown k) d b n)) × (part ≡ or_old (newest ((shown k).slot d b)) old)
   read_done n part old full mark e =
-      (rw (eq-eqb n 512 full, lies.shows, readable) refl, rw readable (e ∙ part_is k.bytes i ∙ memory-is))
+      (rw (eq-eqb n 512 full, lies.shows, readable) refl, rw readable (e ∙ part_is k.bytes i ∙ memory_is))
     where
       readable : newest ((shown k).slot d b) ≡ Some (memory_of k d b)
       readable = rw (ne_eqb (get_or k.marks (place_of k d b) 0) 0 (λ z. mark (ap (λ n. get_or k.marks n 0) lies.place ∙ z))) refl

@@ -4,7 +4,7 @@ use Rattle.std.proofs.lemmas.List.{get_or-set_same, get_or-set_other, length-set
 use Rattle.std.proofs.lemmas.Bool.{cases_eq, eq-eqb, ne_eqb}
 use Rattle.rack.specs.Meaning.{Block, Settles, Early, written}
 use Rattle.memory_rack.specs.Memory.{Kept, block_at, slot_at, place_of, shown, over, put, cleared, ReadsOnly}
-use Rattle.memory_rack.proofs.Blocks.{length_over, block_here, block-other}
+use Rattle.memory_rack.proofs.Blocks.{length_over, block_here, block_other}
 use Rattle.memory_rack.proofs.Places.{Lies, same_place}
 
 -- the memory j has the lengths of k and shows the same, but for the i-th block, which holds o
@@ -17,25 +17,25 @@ pub record Touches (k j : Kept) (i : ℕ) (o : Option Block) : Type 0 where
 
 module _ (k j : Kept) (d b i : ℕ) (o : Option Block) (l : Lies k d b i) (t : Touches k j i o) where
   -- such a change is read in that block alone
-  pub touches-reads : ReadsOnly (shown k) (shown j) d b o
-  touches-reads = record {
+  pub touches_reads : ReadsOnly (shown k) (shown j) d b o
+  touches_reads = record {
     alike = record { count = rw (t.shape, t.marks, t.bytes) refl; size = λ e. rw t.shape refl };
     here = rw t.shape (subst (λ n. (slot_at j n).settled ≡ o) l.place t.here);
     others = λ e c p q ne. rw t.shape (t.others (place_of k e c) (λ h. ne (same_place k.shape.sizes d b e c l.block q (h ∙ l.place))));
   }
 
 module _ (k : Kept) (d b i : ℕ) (l : Lies k d b i) where
-  pub put-touches : (p : ℕ) (v : List ℕ) → p + length v ≤ 512 → Touches k (put k i p v) i (Some (over (block_at k.bytes i) p v))
-  put-touches p v h = record {
+  pub put_touches : (p : ℕ) (v : List ℕ) → p + length v ≤ 512 → Touches k (put k i p v) i (Some (over (block_at k.bytes i) p v))
+  put_touches p v h = record {
     shape = refl;
     marks = length-set k.marks i 1;
     bytes = length_over k.bytes (512 * i + p) v (omega (arith, l.whole));
     here = rw (get_or-set_same k.marks i 1 0 l.marked, block_here k.bytes i p v l.whole h) refl;
-    others = λ n ne. rw (get_or-set_other k.marks i n 1 0 ne, block-other k.bytes i p v l.whole h n ne) refl;
+    others = λ n ne. rw (get_or-set_other k.marks i n 1 0 ne, block_other k.bytes i p v l.whole h n ne) refl;
   }
 
-  pub cleared-touches : Touches k (cleared k i) i None
-  cleared-touches = record {
+  pub cleared_touches : Touches k (cleared k i) i None
+  cleared_touches = record {
     shape = refl;
     marks = length-set k.marks i 0;
     bytes = refl;

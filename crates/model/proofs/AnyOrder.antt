@@ -3,12 +3,12 @@ use Rattle.std.proofs.Common.{◌≡◌, ℕ, ◌<◌, true, ◌⊎◌, List, []
 use Rattle.later.specs.declared.Mark.{Mark}
 use Rattle.later.specs.Keeping.{kept_all, came_to, latest, Among, SameMembers, KeepsTheLatest}
 use Rattle.later.specs.Stamps.{mark_upto}
-use Rattle.later.proofs.Places.{keeps-the-latest}
+use Rattle.later.proofs.Places.{keeps_the_latest}
 use Rattle.later.specs.Marks.{marks_ordered}
 use Rattle.model.specs.Laws.{Logs, offers_on, all_offers, AnyOrder, LargestStays}
 
 law : KeepsTheLatest mark_upto
-law = keeps-the-latest marks_ordered
+law = keeps_the_latest marks_ordered
 
 among_left : {V : Type 0} (x : V) (xs ys : List V) → Among x xs → Among x (xs ++ ys)
 among_left x [] ys p = absurd p

@@ -120,42 +120,42 @@ format_parts z m n y =
     record { zeroed = a.0; wiped = b.0; blanked = c.0; zeroing = a.1; wiping = b.1; blanking = c.1; heading = c.2 }
 
 module _ (z : Shape) (m n : Meaning) (has : Has z m) (room : z.pages < z.blocks 0) (p : Parts z m n) where
-  has-zeroed : Has z p.zeroed
-  has-zeroed = has_alike z m p.zeroed (alike_strokes _ m p.zeroed p.zeroing) has
+  has_zeroed : Has z p.zeroed
+  has_zeroed = has_alike z m p.zeroed (alike_strokes _ m p.zeroed p.zeroing) has
 
-  has-wiped : Has z p.wiped
-  has-wiped = has_alike z p.zeroed p.wiped (alike_strokes _ p.zeroed p.wiped p.wiping) has-zeroed
+  has_wiped : Has z p.wiped
+  has_wiped = has_alike z p.zeroed p.wiped (alike_strokes _ p.zeroed p.wiped p.wiping) has_zeroed
 
-  has-blanked : Has z p.blanked
-  has-blanked = has_alike z p.wiped p.blanked (alike_strokes _ p.wiped p.blanked p.blanking) has-wiped
+  has_blanked : Has z p.blanked
+  has_blanked = has_alike z p.wiped p.blanked (alike_strokes _ p.wiped p.blanked p.blanking) has_wiped
 
-  formatted-log : (d b : ℕ) → 1 ≤ d → d ≤ z.logs → b < z.blocks d → Stands n d b (zeros 512)
+  formatted_log : (d b : ℕ) → 1 ≤ d → d ≤ z.logs → b < z.blocks d → Stands n d b (zeros 512)
   unfolding Elsewhere
-  formatted-log d b low high in-log =
-      let l₁ = has-wiped.logs in
-      let t₁ = has-wiped.blocks d (omega arith) in
-      let l₂ = has-blanked.logs in
-      let t₂ = has-blanked.blocks d (omega arith) in
+  formatted_log d b low high in-log =
+      let l₁ = has_wiped.logs in
+      let t₁ = has_wiped.blocks d (omega arith) in
+      let l₂ = has_blanked.logs in
+      let t₂ = has_blanked.blocks d (omega arith) in
       let away = elsewhere_append (run 0 1 z.pages (page_block (zeros 240))) (Flush 0 ∷ []) d b (run_off_drive 0 1 z.pages (page_block (zeros 240)) d b (λ e. omega arith)) tt in
-      let stood = wipes_stand z 1 z.logs p.zeroed p.wiped has-zeroed (omega arith) p.wiping d b low (omega arith) in-log in
+      let stood = wipes_stand z 1 z.logs p.zeroed p.wiped has_zeroed (omega arith) p.wiping d b low (omega arith) in-log in
       let stays = strokes_stand (blank_pages z.pages) p.wiped p.blanked d b (zeros 512) (omega arith) (omega arith) away p.blanking stood in
       strokes_stand (headed (head_at z 1)) p.blanked n d b (zeros 512) (omega arith) (omega arith) ((λ e k. omega arith), tt) p.heading stays
 
-  formatted-page : (k : ℕ) → k < z.pages → Stands n 0 (suc k) (page_block (zeros 240))
+  formatted_page : (k : ℕ) → k < z.pages → Stands n 0 (suc k) (page_block (zeros 240))
   unfolding Elsewhere
-  formatted-page k h =
-      let l₁ = has-wiped.logs in
-      let t₁ = has-wiped.blocks 0 (omega arith) in
-      let l₂ = has-blanked.logs in
-      let t₂ = has-blanked.blocks 0 (omega arith) in
+  formatted_page k h =
+      let l₁ = has_wiped.logs in
+      let t₁ = has_wiped.blocks 0 (omega arith) in
+      let l₂ = has_blanked.logs in
+      let t₂ = has_blanked.blocks 0 (omega arith) in
       let stood = run_stands 0 1 z.pages (page_block (zeros 240)) p.wiped p.blanked [] (omega arith) (omega arith) p.blanking (suc k) (omega arith) (omega arith) tt in
       strokes_stand (headed (head_at z 1)) p.blanked n 0 (suc k) (page_block (zeros 240)) (omega arith) (omega arith) ((λ e x. omega arith), tt) p.heading stood
 
-  formatted-head : Stands n 0 0 (head_at z 1)
+  formatted_head : Stands n 0 0 (head_at z 1)
   unfolding Strokes
-  formatted-head =
-      let l = has-blanked.logs in
-      let t = has-blanked.blocks 0 (omega arith) in
+  formatted_head =
+      let l = has_blanked.logs in
+      let t = has_blanked.blocks 0 (omega arith) in
       let y = p.heading in
       let c = y.1.alike.count in
       let s = y.1.alike.size 0 in
@@ -166,9 +166,9 @@ pub formatted : (z : Shape) (m n : Meaning) → Has z m → z.pages < z.blocks 0
 formatted z m n has room lasts y =
     let p = format_parts z m n y in
     record {
-      head = formatted-head z m n has room p;
-      page = formatted-page z m n has room p;
-      log = formatted-log z m n has room p;
+      head = formatted_head z m n has room p;
+      page = formatted_page z m n has room p;
+      log = formatted_log z m n has room p;
       strokes = let e = length_format z in let l = strokes_left (format_plan z) m n y in omega arith;
     }
 

@@ -17,9 +17,9 @@ use Rattle.recovery.specs.Views.{log_in}
 use Rattle.recovery.proofs.Taking.{log_in_mask, also_taken_lem, none_first}
 
 module _ (c : Collecting) (ks : List Mark) (d : ℕ) (m : Meaning) where
-  pub does-not-collect : (f : Refusal) → Some f ≡ collect_fault c d m → Does (collect_of c ks d m) (collecting c ks) m (refused f) (collecting c ks) m
+  pub does_not_collect : (f : Refusal) → Some f ≡ collect_fault c d m → Does (collect_of c ks d m) (collecting c ks) m (refused f) (collecting c ks) m
   unfolding collect_of
-  does-not-collect f e = does_refused (collect_of c ks d m) (collecting c ks) m f (ap (λ (o : Option Refusal). or_else o (when (some_ill (log_in c d) m) BadRecord None)) (sym e))
+  does_not_collect f e = does_refused (collect_of c ks d m) (collecting c ks) m f (ap (λ (o : Option Refusal). or_else o (when (some_ill (log_in c d) m) BadRecord None)) (sym e))
 
   module _ (fine : None ≡ collect_fault c d m) (log : Log) (is : log ≡ log_in c d) where
     -- with nothing against the log, what stands on it decides

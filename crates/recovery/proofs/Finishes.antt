@@ -27,9 +27,9 @@ none_rest true f rest e = let z : ◌≡◌ {A = ℕ} 0 1 = cc in absurd (omega 
 none_rest false f rest e = e
 
 module _ (a : Applying) (ks : List Mark) (m : Meaning) where
-  pub does-not-finish : (f : Refusal) → Some f ≡ finish_fault a (length ks) m → Does (finishing a ks m) (applying a ks) m (refused f) (applying a ks) m
+  pub does_not_finish : (f : Refusal) → Some f ≡ finish_fault a (length ks) m → Does (finishing a ks m) (applying a ks) m (refused f) (applying a ks) m
   unfolding finishing
-  does-not-finish f e = does_refused (finishing a ks m) (applying a ks) m f (sym e)
+  does_not_finish f e = does_refused (finishing a ks m) (applying a ks) m f (sym e)
 
   module _ (fine : None ≡ finish_fault a (length ks) m) (is-legal : legal a.shape ≡ true) where
     rest : None ≡ when (not (eqb (length ks) (a.shape.pages * 240))) BadLength (when (leb 4294967295 a.round) LastRound (when (not (fits a.shape m)) (Rack NoPlace) None))

@@ -15,43 +15,43 @@ module _ (pages : ℕ) (m : Meaning) where
   abbrev plan : List Stroke
   plan = format_plan (shape_of pages m)
 
-  abbrev new-head : Block
-  new-head = head_at (shape_of pages m) 1
+  abbrev new_head : Block
+  new_head = head_at (shape_of pages m) 1
 
   abbrev pub wiping : Meaning → List Stroke
   wiping k = wipes k.size 1 (k.count - 1)
 
   -- what is left after the first part, and after the second
-  abbrev from-pages : List Stroke
-  from-pages = blank_pages pages ++ headed new-head
+  abbrev from_pages : List Stroke
+  from_pages = blank_pages pages ++ headed new_head
 
   abbrev planned : List Stroke
   planned = wipes (shape_of pages m).blocks 1 (m.count - 1)
 
-  abbrev from-logs : List Stroke
-  from-logs = planned ++ from-pages
+  abbrev from_logs : List Stroke
+  from_logs = planned ++ from_pages
 
-  pub stops-zeroing : (k : Meaning) (f : RackFault) → Plays (headed (zeros 512)) m (Some f) k → Plays plan m (Some f) k
-  stops-zeroing k f p = part_refused (headed (zeros 512)) plan from-logs m m k f (onto_none plan m) p
+  pub stops_zeroing : (k : Meaning) (f : RackFault) → Plays (headed (zeros 512)) m (Some f) k → Plays plan m (Some f) k
+  stops_zeroing k f p = part_refused (headed (zeros 512)) plan from_logs m m k f (onto_none plan m) p
 
   module _ (k₁ : Meaning) (zeroed : Plays (headed (zeros 512)) m None k₁) where
-    onto-logs : Onto plan m from-logs k₁
-    onto-logs = part_made (headed (zeros 512)) plan from-logs m m k₁ (onto_none plan m) zeroed
+    onto_logs : Onto plan m from_logs k₁
+    onto_logs = part_made (headed (zeros 512)) plan from_logs m m k₁ (onto_none plan m) zeroed
 
     same-wiping : (r : Option RackFault) (n : Meaning) → Plays (wiping k₁) k₁ r n → Plays planned k₁ r n
-    same-wiping r n p = subst (λ (w : List Stroke). Plays w k₁ r n) (wipes_shape pages m k₁ onto-logs.alike) p
+    same-wiping r n p = subst (λ (w : List Stroke). Plays w k₁ r n) (wipes_shape pages m k₁ onto_logs.alike) p
 
     pub stops-wiping : (k : Meaning) (f : RackFault) → Plays (wiping k₁) k₁ (Some f) k → Plays plan m (Some f) k
-    stops-wiping k f p = part_refused planned plan from-pages m k₁ k f onto-logs (same-wiping (Some f) k p)
+    stops-wiping k f p = part_refused planned plan from_pages m k₁ k f onto_logs (same-wiping (Some f) k p)
 
     module _ (k₂ : Meaning) (wiped : Plays (wiping k₁) k₁ None k₂) where
-      onto-pages : Onto plan m from-pages k₂
-      onto-pages = part_made planned plan from-pages m k₁ k₂ onto-logs (same-wiping None k₂ wiped)
+      onto-pages : Onto plan m from_pages k₂
+      onto-pages = part_made planned plan from_pages m k₁ k₂ onto_logs (same-wiping None k₂ wiped)
 
       pub stops-blanking : (k : Meaning) (f : RackFault) → Plays (blank_pages pages) k₂ (Some f) k → Plays plan m (Some f) k
-      stops-blanking k f p = part_refused (blank_pages pages) plan (headed new-head) m k₂ k f onto-pages p
+      stops-blanking k f p = part_refused (blank_pages pages) plan (headed new_head) m k₂ k f onto-pages p
 
-      pub ends-heading : (k₃ n : Meaning) (v : Block) (q : Result (Unit {0}) RackFault) → Plays (blank_pages pages) k₂ None k₃ → v ≡ new-head → Plays (headed v) k₃ (result_err q) n → Plays plan m (result_err q) n
+      pub ends-heading : (k₃ n : Meaning) (v : Block) (q : Result (Unit {0}) RackFault) → Plays (blank_pages pages) k₂ None k₃ → v ≡ new_head → Plays (headed v) k₃ (result_err q) n → Plays plan m (result_err q) n
       ends-heading k₃ n v q b e p =
-          last_part (headed new-head) plan m k₃ n q (part_made (blank_pages pages) plan (headed new-head) m k₂ k₃ onto-pages b)
+          last_part (headed new_head) plan m k₃ n q (part_made (blank_pages pages) plan (headed new_head) m k₂ k₃ onto-pages b)
           (subst (λ (w : Block). Plays (headed w) k₃ (result_err q) n) e p)

@@ -23,8 +23,8 @@ digit_worth c e =
     (omega (arith, digit_value_digit c (low, high)), omega arith)
 
 module _ (w : List ℕ) (i : ℕ) (inside : i < length w) where
-  pub sofar-more : (n d : ℕ) → Sofar w i n → is_ascii_digit (get_or w i 0) ≡ true → d ≡ get_or w i 0 - 48 → Sofar w (i + 1) (n * 10 + d)
-  sofar-more n d s e is =
+  pub sofar_more : (n d : ℕ) → Sofar w i n → is_ascii_digit (get_or w i 0) ≡ true → d ≡ get_or w i 0 - 48 → Sofar w (i + 1) (n * 10 + d)
+  sofar_more n d s e is =
       let p = digit_worth (get_or w i 0) e in
       let worth : digits_value_after 10 n (drop i w) ≡ digits_value_after 10 (n * 10 + digit_value (get_or w i 0)) (drop (i + 1) w) = at_drop_more (digits_value_after 10 n) w i 0 inside in
       let digits : all_ascii_digits (drop i w) ≡ (is_ascii_digit (get_or w i 0) && all_ascii_digits (drop (i + 1) w)) = at_drop_more all_ascii_digits w i 0 inside in

@@ -22,10 +22,10 @@ hex_text_more bs i h = sym (ap hex_text (take_more bs i 0 h) ∙ hex_text-++ (ta
 
 module _ {W : Type 0} (took : W → List ℕ → W → Type 0) (f g h : Formatter W) where
   -- two digits, one after the other
-  pub digits-put : (c d x y : ℕ) → x < 16 → y < 16 → c ≡ digit_text x → d ≡ digit_text y → HasWritten took f (encode c) g → (IsPlainFormatter g → HasWritten took g (encode d) h) → HasWritten took f (digit_text x ∷ digit_text y ∷ []) h
-  digits-put c d x y p q u v a b =
+  pub digits_put : (c d x y : ℕ) → x < 16 → y < 16 → c ≡ digit_text x → d ≡ digit_text y → HasWritten took f (encode c) g → (IsPlainFormatter g → HasWritten took g (encode d) h) → HasWritten took f (digit_text x ∷ digit_text y ∷ []) h
+  digits_put c d x y p q u v a b =
       has_written_append took f (digit_text x ∷ []) g (digit_text y ∷ []) h (has_written_of_eq took f _ _ g (digit_byte c x p u) a) (has_written_of_eq took g _ _ h (digit_byte d y q v) (b a.plain))
 
   -- a byte more
-  pub hex-put : (bs : List ℕ) (i : ℕ) → i < length bs → HasWritten took f (hex_text (take i bs)) g → (IsPlainFormatter g → HasWritten took g (hex_text (get_or bs i 0 ∷ [])) h) → HasWritten took f (hex_text (take (i + 1) bs)) h
-  hex-put bs i l a b = has_written_of_eq took f _ _ h (hex_text_more bs i l) (has_written_append took f _ g _ h a (b a.plain))
+  pub hex_put : (bs : List ℕ) (i : ℕ) → i < length bs → HasWritten took f (hex_text (take i bs)) g → (IsPlainFormatter g → HasWritten took g (hex_text (get_or bs i 0 ∷ [])) h) → HasWritten took f (hex_text (take (i + 1) bs)) h
+  hex_put bs i l a b = has_written_of_eq took f _ _ h (hex_text_more bs i l) (has_written_append took f _ g _ h a (b a.plain))

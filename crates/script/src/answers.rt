@@ -33,7 +33,7 @@ fn digit(d: u8) -> char
 
 // A byte as two digits.
 fn write_byte<W: fmt::Write>(b: u8, f: &mut fmt::Formatter<W>) -> fmt::Result
-    ensures { WritesOnOk write_str_gives f.old result (hex_text (b ∷ [])) f.new }
+    ensures { WritesOnOk W.write_str_gives f.old result (hex_text (b ∷ [])) f.new }
 {
     f.write_char(digit(b / 16))?;
     f.write_char(digit(b % 16))
@@ -41,7 +41,7 @@ fn write_byte<W: fmt::Write>(b: u8, f: &mut fmt::Formatter<W>) -> fmt::Result
 
 // Two digits for each byte.
 fn write_hex<W: fmt::Write>(bytes: &[u8], f: &mut fmt::Formatter<W>) -> fmt::Result
-    ensures { WritesOnOk write_str_gives f.old result (hex_text bytes.now) f.new }
+    ensures { WritesOnOk W.write_str_gives f.old result (hex_text bytes.now) f.new }
 {
     for b in bytes {
         write_byte(*b, f)?;

@@ -32,35 +32,35 @@ module _ (h : Head) (s : List Bool) (t : List Page) (m : Meaning) where
   abbrev writes : List Stroke
   writes = page_writes (is_chosen s) (committed_in t) 0 h.pages
 
-  abbrev from-head : List Stroke
-  from-head = headed (head_at (head_shape h) (suc h.round))
+  abbrev from_head : List Stroke
+  from_head = headed (head_at (head_shape h) (suc h.round))
 
-  abbrev from-writes : List Stroke
-  from-writes = writes ++ (Flush 0 ∷ from-head)
+  abbrev from_writes : List Stroke
+  from_writes = writes ++ (Flush 0 ∷ from_head)
 
-  by-table : logs ++ from-writes ≡ plan
-  by-table = ap (λ w. logs ++ (w ++ (Flush 0 ∷ from-head))) (writes_same (is_chosen s) (is_chosen s) (committed_in t) (contents_in h.pages t) 0 h.pages (λ k l. (refl, content_has h.pages t k (omega arith))))
+  by_table : logs ++ from_writes ≡ plan
+  by_table = ap (λ w. logs ++ (w ++ (Flush 0 ∷ from_head))) (writes_same (is_chosen s) (is_chosen s) (committed_in t) (contents_in h.pages t) 0 h.pages (λ k l. (refl, content_has h.pages t k (omega arith))))
 
-  onto-logs : Onto plan m (logs ++ from-writes) m
-  onto-logs = rw by-table (onto_none plan m)
+  onto_logs : Onto plan m (logs ++ from_writes) m
+  onto_logs = rw by_table (onto_none plan m)
 
-  pub stops-logs : (k : Meaning) (f : RackFault) → Plays logs m (Some f) k → Plays plan m (Some f) k
-  stops-logs k f p = part_refused logs plan from-writes m m k f onto-logs p
+  pub stops_logs : (k : Meaning) (f : RackFault) → Plays logs m (Some f) k → Plays plan m (Some f) k
+  stops_logs k f p = part_refused logs plan from_writes m m k f onto_logs p
 
   module _ (k₁ : Meaning) (settled : Plays logs m None k₁) where
-    onto-writes : Onto plan m from-writes k₁
-    onto-writes = part_made logs plan from-writes m m k₁ onto-logs settled
+    onto-writes : Onto plan m from_writes k₁
+    onto-writes = part_made logs plan from_writes m m k₁ onto_logs settled
 
     pub stops-writes : (k : Meaning) (f : RackFault) → Plays writes k₁ (Some f) k → Plays plan m (Some f) k
-    stops-writes k f p = part_refused writes plan (Flush 0 ∷ from-head) m k₁ k f onto-writes p
+    stops-writes k f p = part_refused writes plan (Flush 0 ∷ from_head) m k₁ k f onto-writes p
 
     module _ (k₂ : Meaning) (written : Plays writes k₁ None k₂) where
-      onto-flush : Onto plan m (Flush 0 ∷ from-head) k₂
-      onto-flush = part_made writes plan (Flush 0 ∷ from-head) m k₁ k₂ onto-writes written
+      onto-flush : Onto plan m (Flush 0 ∷ from_head) k₂
+      onto-flush = part_made writes plan (Flush 0 ∷ from_head) m k₁ k₂ onto-writes written
 
       pub stops-flush : (k : Meaning) (f : RackFault) → ◌≡◌ {A = Result (Unit {0}) RackFault} (Err f) (answer (flush_fault k₂ 0)) → k ≡ k₂ → Plays plan m (Some f) k
-      stops-flush k f a l = stroke_refused (Flush 0) plan from-head m k₂ k f onto-flush a l
+      stops-flush k f a l = stroke_refused (Flush 0) plan from_head m k₂ k f onto-flush a l
 
       pub ends-head : (k₃ n : Meaning) (q : Result (Unit {0}) RackFault) → ◌≡◌ {A = Result (Unit {0}) RackFault} (Ok tt) (answer (flush_fault k₂ 0)) → Early (flushed k₂ 0) k₃ →
-          Plays from-head k₃ (result_err q) n → Plays plan m (result_err q) n
-      ends-head k₃ n q a l p = last_part from-head plan m k₃ n q (stroke_made (Flush 0) plan from-head m k₂ k₃ onto-flush a l) p
+          Plays from_head k₃ (result_err q) n → Plays plan m (result_err q) n
+      ends-head k₃ n q a l p = last_part from_head plan m k₃ n q (stroke_made (Flush 0) plan from_head m k₂ k₃ onto-flush a l) p

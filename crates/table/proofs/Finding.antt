@@ -87,13 +87,13 @@ module _ (ks : List Mark) where
           ⊎_elim (λ a. table-has p n a ∙ sym (table-has p (n + 1) (omega arith))) (λ a. table-lacks p n a ∙ sym (table-lacks p (n + 1) (omega arith))) (cases_lt p n))
 
   -- the table has no more than 64 pages
-  pub filled-all : (n i : ℕ) (t : List Page) → i ≡ min n 64 → Filled i t → Filled n t
-  filled-all n i t e filled p h =
+  pub filled_all : (n i : ℕ) (t : List Page) → i ≡ min n 64 → Filled i t → Filled n t
+  filled_all n i t e filled p h =
       filled p h ∙
       ⊎_elim (λ a. table-has p i (omega arith) ∙ sym (table-has p n a)) (λ a. table-lacks p i (omega arith) ∙ sym (table-lacks p n a)) (cases_lt p n)
 
-  pub found-from-filled : (n : ℕ) (t : List Page) → Filled n t → n ≤ 64 → length ks ≡ n * 240 → (p : ℕ) → pages_in n t p ≡ rest_page (found_page n ks p)
-  found-from-filled n t filled few l p = ⊎_elim has lacks (cases_Bool (ltb p n))
+  pub found_from_filled : (n : ℕ) (t : List Page) → Filled n t → n ≤ 64 → length ks ≡ n * 240 → (p : ℕ) → pages_in n t p ≡ rest_page (found_page n ks p)
+  found_from_filled n t filled few l p = ⊎_elim has lacks (cases_Bool (ltb p n))
     where
       has : ltb p n ≡ true → pages_in n t p ≡ rest_page (found_page n ks p)
       has e =

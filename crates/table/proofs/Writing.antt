@@ -30,17 +30,17 @@ module _ (logs : ℕ) (m : Meaning) where
   abbrev pub Flushing : ℕ → Meaning → Type 0
   Flushing d k = Onto plan m (flushes d (suc logs - d)) k
 
-  pub flushing-none : Flushing 1 m
-  flushing-none = let e : suc logs - 1 ≡ logs = omega arith in rw e (onto_none plan m)
+  pub flushing_none : Flushing 1 m
+  flushing_none = let e : suc logs - 1 ≡ logs = omega arith in rw e (onto_none plan m)
 
-  pub flushing-more : (d : ℕ) (k n : Meaning) → d ≤ logs → Flushing d k → ◌≡◌ {A = Result (Unit {0}) RackFault} (Ok tt) (answer (flush_fault k d)) → Early (flushed k d) n → Flushing (d + 1) n
-  flushing-more d k n h o a l = stroke_made (Flush d) plan (flushes (d + 1) (suc logs - (d + 1))) m k n (rw (flushes_more d (suc logs) (omega arith)) at o) a l
+  pub flushing_more : (d : ℕ) (k n : Meaning) → d ≤ logs → Flushing d k → ◌≡◌ {A = Result (Unit {0}) RackFault} (Ok tt) (answer (flush_fault k d)) → Early (flushed k d) n → Flushing (d + 1) n
+  flushing_more d k n h o a l = stroke_made (Flush d) plan (flushes (d + 1) (suc logs - (d + 1))) m k n (rw (flushes_more d (suc logs) (omega arith)) at o) a l
 
-  pub flushing-stops : (d : ℕ) (k n : Meaning) (f : RackFault) → d ≤ logs → Flushing d k → ◌≡◌ {A = Result (Unit {0}) RackFault} (Err f) (answer (flush_fault k d)) → n ≡ k → Plays plan m (Some f) n
-  flushing-stops d k n f h o a l = stroke_refused (Flush d) plan (flushes (d + 1) (suc logs - (d + 1))) m k n f (rw (flushes_more d (suc logs) (omega arith)) at o) a l
+  pub flushing_stops : (d : ℕ) (k n : Meaning) (f : RackFault) → d ≤ logs → Flushing d k → ◌≡◌ {A = Result (Unit {0}) RackFault} (Err f) (answer (flush_fault k d)) → n ≡ k → Plays plan m (Some f) n
+  flushing_stops d k n f h o a l = stroke_refused (Flush d) plan (flushes (d + 1) (suc logs - (d + 1))) m k n f (rw (flushes_more d (suc logs) (omega arith)) at o) a l
 
-  pub flushing-all : (d : ℕ) (k : Meaning) → logs < d → Flushing d k → Plays plan m None k
-  flushing-all d k h o = onto_all plan m k (rw (flushes_all d (suc logs) (omega arith)) at o)
+  pub flushing_all : (d : ℕ) (k : Meaning) → logs < d → Flushing d k → Plays plan m None k
+  flushing_all d k h o = onto_all plan m k (rw (flushes_all d (suc logs) (omega arith)) at o)
 
 -- only what is said of the pages in the range counts
 pub writes_same : (f g : ℕ → Bool) (c d : ℕ → List ℕ) (p n : ℕ) → ((k : ℕ) → k < p + n → (f k ≡ g k) × (c k ≡ d k)) → page_writes f c p n ≡ page_writes g d p n
@@ -59,26 +59,26 @@ module _ (s : List Bool) (t : List Page) where
   write p = Write 0 (suc p) (page_block (committed_in t p))
 
   -- one page: one stroke where it is chosen, else none
-  pub page-written : (p : ℕ) (m n : Meaning) (q : Result (Unit {0}) RackFault) → get_or s p false ≡ true → q ≡ answer (fault (write p) m) → Leaves q (effect (write p) m) m n → Plays (writes p 1) m (result_err q) n
+  pub page_written : (p : ℕ) (m n : Meaning) (q : Result (Unit {0}) RackFault) → get_or s p false ≡ true → q ≡ answer (fault (write p) m) → Leaves q (effect (write p) m) m n → Plays (writes p 1) m (result_err q) n
   unfolding page_writes
-  page-written p m n q e a l = rw e (last_stroke (write p) (write p ∷ []) m m n q (onto_none (write p ∷ []) m) a l)
+  page_written p m n q e a l = rw e (last_stroke (write p) (write p ∷ []) m m n q (onto_none (write p ∷ []) m) a l)
 
-  pub page-passed : (p : ℕ) (m : Meaning) → get_or s p false ≡ false → Plays (writes p 1) m None m
+  pub page_passed : (p : ℕ) (m : Meaning) → get_or s p false ≡ false → Plays (writes p 1) m None m
   unfolding page_writes Plays
-  page-passed p m e = rw e (refl, refl)
+  page_passed p m e = rw e (refl, refl)
 
   -- the writes begin with that of the first page, if it is chosen
-  writes-first : (p n : ℕ) → writes p (suc n) ≡ writes p 1 ++ writes (suc p) n
+  writes_first : (p n : ℕ) → writes p (suc n) ≡ writes p 1 ++ writes (suc p) n
   unfolding page_writes
-  writes-first p n =
+  writes_first p n =
       elim (get_or s p false) as (λ b. cond b (write p ∷ writes (suc p) n) (writes (suc p) n) ≡ cond b (write p ∷ []) [] ++ writes (suc p) n) [ true ↦ refl | false ↦ refl ]
 
   writes_more : (p end : ℕ) → p < end → writes p (end - p) ≡ writes p 1 ++ writes (p + 1) (end - (p + 1))
-  writes_more p end h = let e : end - p ≡ suc (end - (p + 1)) = omega arith in rw e (rw add-one (writes-first p (end - suc p)))
+  writes_more p end h = let e : end - p ≡ suc (end - (p + 1)) = omega arith in rw e (rw add-one (writes_first p (end - suc p)))
 
-  writes-all : (p end : ℕ) → end ≤ p → writes p (end - p) ≡ []
+  writes_all : (p end : ℕ) → end ≤ p → writes p (end - p) ≡ []
   unfolding page_writes
-  writes-all p end h = let e : end - p ≡ 0 = omega arith in rw e
+  writes_all p end h = let e : end - p ≡ 0 = omega arith in rw e
 
   module _ (pages : ℕ) (m : Meaning) where
     -- the chosen ones of the pages before p are written, which led to k
@@ -95,4 +95,4 @@ module _ (s : List Bool) (t : List Page) where
     writing-stops p k n f h o w = part_refused (writes p 1) (writes 0 pages) (writes (p + 1) (pages - (p + 1))) m k n f (rw (writes_more p pages h) at o) w
 
     pub writing-all : (p : ℕ) (k : Meaning) → pages ≤ p → Writing p k → Plays (writes 0 pages) m None k
-    writing-all p k h o = onto_all (writes 0 pages) m k (rw (writes-all p pages h) at o)
+    writing-all p k h o = onto_all (writes 0 pages) m k (rw (writes_all p pages h) at o)

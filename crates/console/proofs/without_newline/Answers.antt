@@ -8,5 +8,5 @@ line_none : (bs : List ℕ) → length bs ≡ 0 → bs ≡ line_in bs
 line_none [] h = refl
 line_none (b ∷ bs) h = absurd (omega arith)
 
-pub returns-then-is-empty : goal.returns-then-is-empty
-returns-then-is-empty c = line_none c.args.line.now (eqb-true _ 0 (sym c.if-is-empty.ensures))
+pub returns-then-is_empty : goal.returns-then-is_empty
+returns-then-is_empty c = line_none c.args.line.now (eqb-true _ 0 (sym c.if-is_empty.ensures))

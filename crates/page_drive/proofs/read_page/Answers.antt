@@ -10,9 +10,9 @@ returns-in-Some g c =
     let m = g.R.Rack.meaning c.args.rack.now in
     let value = c.in-Some.ensures ∙ ap (value_at m 0) (add-one c.args.page) in
     record {
-      after = c.fill.ensures ∙ page_put c.args.marks.now (240 * c.args.page) _ c.in-Some.block _ value c.page-content.ensures.value;
+      after = c.fill.ensures ∙ page_put c.args.marks.now (240 * c.args.page) _ c.in-Some.block _ value c.page_content.ensures.value;
       read = ap (λ (o : Option Block). not (is_none o)) value;
-      whole = λ _. page_whole _ c.in-Some.block _ value c.page-content.ensures.value c.page-content.ensures.len;
+      whole = λ _. page_whole _ c.in-Some.block _ value c.page_content.ensures.value c.page_content.ensures.len;
     }
 
 pub returns-in-None : goal.returns-in-None

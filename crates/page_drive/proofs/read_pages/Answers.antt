@@ -15,7 +15,7 @@ loop-page-preserved g c =
     let p = c.loop-page.page in
     λ can.
     let there = none_passes (λ k. is_none (value_at m 0 (suc k))) c.args.pages p (omega arith) can.readable in
-    so_far_more c.args.marks.now m p c.loop-page.marks _ (c.loop-page.invariant can) (c.read-page.ensures.whole (c.read-page.ensures.read ∙ ap not there)) c.read-page.ensures.after
+    so_far_more c.args.marks.now m p c.loop-page.marks _ (c.loop-page.invariant can) (c.read_page.ensures.whole (c.read_page.ensures.read ∙ ap not there)) c.read_page.ensures.after
 
 pub returns : goal.returns
 returns g c =

@@ -9,6 +9,6 @@ pub returns : goal.returns
 unfolding zeros
 returns g c =
     let m = g.R.Rack.meaning c.args.rack.now in
-    let b = blocks_in m c.args.drive c.in-ok-blocks.blocks c.in-ok-blocks.ensures in
-    let e : c.in-ok-blocks.blocks - 0 ≡ m.size c.args.drive = omega arith in
-    subst (λ (n : ℕ). Plays (settled_run c.args.drive 0 n (zeros 512)) m (result_err c.settle-run.result) (g.R.Rack.meaning c.settle-run.new.rack)) e c.settle-run.ensures
+    let b = blocks_in m c.args.drive c.in_ok-blocks.blocks c.in_ok-blocks.ensures in
+    let e : c.in_ok-blocks.blocks - 0 ≡ m.size c.args.drive = omega arith in
+    subst (λ (n : ℕ). Plays (settled_run c.args.drive 0 n (zeros 512)) m (result_err c.settle_run.result) (g.R.Rack.meaning c.settle_run.new.rack)) e c.settle_run.ensures

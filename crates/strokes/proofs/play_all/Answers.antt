@@ -16,7 +16,7 @@ none = Write 0 0 []
 pub loop-stroke-preserved : goal.loop-stroke-preserved
 unfolding none
 loop-stroke-preserved g c =
-    let told = c.in-ok-play.ensures in
+    let told = c.in_ok-play.ensures in
     let i = c.loop-stroke.stroke-index in
     let h : i < length c.args.plan.now = search rules in
     stroke_made (get_or c.args.plan.now i none) _ _ _ _ _ (rw (drop_more c.args.plan.now i none h) at c.loop-stroke.invariant) told.answers told.leaves
@@ -27,12 +27,12 @@ returns g c =
     let played = onto_all _ _ _ (rw (drop_all c.loop-stroke.stroke-index c.args.plan.now h) at c.loop-stroke.invariant) in
     record { plays = played; exactly = λ p. done_from_plays _ _ _ _ p played; composes = plans_compose; shows = plans_show }
 
-pub returns-in-err-play : goal.returns-in-err-play
+pub returns-in_err-play : goal.returns-in_err-play
 unfolding none
-returns-in-err-play g c =
-    let told = c.in-err-play.ensures in
+returns-in_err-play g c =
+    let told = c.in_err-play.ensures in
     let i = c.loop-stroke.stroke-index in
     let h : i < length c.args.plan.now = search rules in
-    let p = err_from_is_err_and c.from-residual.result c.from-residual.ensures.1 in
+    let p = err_from_is_err_and c.from_residual.result c.from_residual.ensures.1 in
     let played = stroke_refused (get_or c.args.plan.now i none) _ _ _ _ _ _ (rw (drop_more c.args.plan.now i none h) at c.loop-stroke.invariant) told.answers told.leaves in
     rw (p.1, p.2) (record { plays = played; exactly = λ q. done_from_plays _ _ _ _ q played; composes = plans_compose; shows = plans_show })

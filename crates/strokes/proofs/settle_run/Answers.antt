@@ -10,11 +10,11 @@ returns g c =
     let a = c.args in
     let told = c.flush.ensures in
     last_stroke (Flush a.drive) (settled_run a.drive a.first (a.end - a.first) a.bytes.now) _ _ _ _
-    (onto_part (run a.drive a.first (a.end - a.first) a.bytes.now) _ _ _ c.in-ok-write-run.ensures)
+    (onto_part (run a.drive a.first (a.end - a.first) a.bytes.now) _ _ _ c.in_ok-write_run.ensures)
     told.answers told.leaves
 
-pub returns-in-err-write-run : goal.returns-in-err-write-run
-returns-in-err-write-run g c =
+pub returns-in_err-write_run : goal.returns-in_err-write_run
+returns-in_err-write_run g c =
     let a = c.args in
-    let p = err_from_is_err_and c.from-residual.result c.from-residual.ensures.1 in
-    rw (p.1, p.2) (refused_part (run a.drive a.first (a.end - a.first) a.bytes.now) (Flush a.drive ∷ []) _ _ _ c.in-err-write-run.ensures)
+    let p = err_from_is_err_and c.from_residual.result c.from_residual.ensures.1 in
+    rw (p.1, p.2) (refused_part (run a.drive a.first (a.end - a.first) a.bytes.now) (Flush a.drive ∷ []) _ _ _ c.in_err-write_run.ensures)

@@ -9,7 +9,7 @@ loop-block-init g c = onto_none _ _
 
 pub loop-block-preserved : goal.loop-block-preserved
 loop-block-preserved g c =
-    let told = c.in-ok-write-at.ensures in
+    let told = c.in_ok-write_at.ensures in
     stroke_made (Write c.args.drive c.loop-block.block c.args.bytes.now) _ _ _ _ _
     (rw (run_more c.args.drive c.loop-block.block c.args.end c.args.bytes.now c.loop-block-test.true) at c.loop-block.invariant)
     told.answers told.leaves
@@ -17,10 +17,10 @@ loop-block-preserved g c =
 pub returns : goal.returns
 returns g c = onto_all _ _ _ (rw (run_all c.args.drive c.loop-block.block c.args.end c.args.bytes.now c.loop-block-test.false) at c.loop-block.invariant)
 
-pub returns-in-err-write-at : goal.returns-in-err-write-at
-returns-in-err-write-at g c =
-    let told = c.in-err-write-at.ensures in
-    let p = err_from_is_err_and c.from-residual.result c.from-residual.ensures.1 in
+pub returns-in_err-write_at : goal.returns-in_err-write_at
+returns-in_err-write_at g c =
+    let told = c.in_err-write_at.ensures in
+    let p = err_from_is_err_and c.from_residual.result c.from_residual.ensures.1 in
     rw (p.1, p.2)
     (stroke_refused (Write c.args.drive c.loop-block.block c.args.bytes.now) _ _ _ _ _ _
     (rw (run_more c.args.drive c.loop-block.block c.args.end c.args.bytes.now c.loop-block-test.true) at c.loop-block.invariant)

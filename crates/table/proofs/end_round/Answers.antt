@@ -1,38 +1,38 @@
 use Rattle.std.proofs.lemmas.Result.{err_from_is_err_and}
-use Rattle.table.proofs.Ending.{stops-logs, stops-writes, stops-flush, ends-head}
+use Rattle.table.proofs.Ending.{stops_logs, stops-writes, stops-flush, ends-head}
 use Rattle.table.proofs.end_round.Goals as goal
 
 pub returns : goal.returns
 returns g c =
     let a = c.args in
     let m = g.R.Rack.meaning in
-    let told = c.in-ok-flush.ensures in
-    ends-head a.head a.chosen.now a.table.now (m a.rack.now) (m c.flush-logs.new.rack) c.in-ok-flush-logs.ensures
-    (m c.write-chosen.new.rack) c.in-ok-write-chosen.ensures (m c.flush.new.self) (m c.raise-head.new.rack) c.raise-head.result
-    told.answers told.leaves c.raise-head.ensures
+    let told = c.in_ok-flush.ensures in
+    ends-head a.head a.chosen.now a.table.now (m a.rack.now) (m c.flush_logs.new.rack) c.in_ok-flush_logs.ensures
+    (m c.write_chosen.new.rack) c.in_ok-write_chosen.ensures (m c.flush.new.self) (m c.raise_head.new.rack) c.raise_head.result
+    told.answers told.leaves c.raise_head.ensures
 
-pub returns-in-err-flush-logs : goal.returns-in-err-flush-logs
-returns-in-err-flush-logs g c =
+pub returns-in_err-flush_logs : goal.returns-in_err-flush_logs
+returns-in_err-flush_logs g c =
     let a = c.args in
     let m = g.R.Rack.meaning in
-    let p = err_from_is_err_and c.from-residual.result c.from-residual.ensures.1 in
-    rw (p.1, p.2) (stops-logs a.head a.chosen.now a.table.now (m a.rack.now) (m c.flush-logs.new.rack) _ c.in-err-flush-logs.ensures)
+    let p = err_from_is_err_and c.from_residual.result c.from_residual.ensures.1 in
+    rw (p.1, p.2) (stops_logs a.head a.chosen.now a.table.now (m a.rack.now) (m c.flush_logs.new.rack) _ c.in_err-flush_logs.ensures)
 
-pub returns-in-err-write-chosen : goal.returns-in-err-write-chosen
-returns-in-err-write-chosen g c =
+pub returns-in_err-write_chosen : goal.returns-in_err-write_chosen
+returns-in_err-write_chosen g c =
     let a = c.args in
     let m = g.R.Rack.meaning in
-    let p = err_from_is_err_and c.from-residual-in-err-write-chosen.result c.from-residual-in-err-write-chosen.ensures.1 in
+    let p = err_from_is_err_and c.from_residual-in_err-write_chosen.result c.from_residual-in_err-write_chosen.ensures.1 in
     rw (p.1, p.2)
-    (stops-writes a.head a.chosen.now a.table.now (m a.rack.now) (m c.flush-logs.new.rack) c.in-ok-flush-logs.ensures
-    (m c.write-chosen.new.rack) _ c.in-err-write-chosen.ensures)
+    (stops-writes a.head a.chosen.now a.table.now (m a.rack.now) (m c.flush_logs.new.rack) c.in_ok-flush_logs.ensures
+    (m c.write_chosen.new.rack) _ c.in_err-write_chosen.ensures)
 
-pub returns-in-err-flush : goal.returns-in-err-flush
-returns-in-err-flush g c =
+pub returns-in_err-flush : goal.returns-in_err-flush
+returns-in_err-flush g c =
     let a = c.args in
     let m = g.R.Rack.meaning in
-    let told = c.in-err-flush.ensures in
-    let p = err_from_is_err_and c.from-residual-in-err-flush.result c.from-residual-in-err-flush.ensures.1 in
+    let told = c.in_err-flush.ensures in
+    let p = err_from_is_err_and c.from_residual-in_err-flush.result c.from_residual-in_err-flush.ensures.1 in
     rw (p.1, p.2)
-    (stops-flush a.head a.chosen.now a.table.now (m a.rack.now) (m c.flush-logs.new.rack) c.in-ok-flush-logs.ensures
-    (m c.write-chosen.new.rack) c.in-ok-write-chosen.ensures (m c.flush.new.self) _ told.answers told.leaves)
+    (stops-flush a.head a.chosen.now a.table.now (m a.rack.now) (m c.flush_logs.new.rack) c.in_ok-flush_logs.ensures
+    (m c.write_chosen.new.rack) c.in_ok-write_chosen.ensures (m c.flush.new.self) _ told.answers told.leaves)

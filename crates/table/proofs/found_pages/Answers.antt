@@ -2,7 +2,7 @@ use Rattle.std.proofs.Common.{◌<◌, length, refl, ap, ◌∙◌, arith}
 use Rattle.std.proofs.lemmas.List.{length-set}
 use Rattle.block.specs.Bytes.{zeros}
 use Rattle.model.specs.Rounds.{rest_page}
-use Rattle.table.proofs.Finding.{filled_none, filled_more, filled-all, found-from-filled}
+use Rattle.table.proofs.Finding.{filled_none, filled_more, filled_all, found_from_filled}
 use Rattle.table.proofs.found_pages.Goals as goal
 
 pub loop-page-init : goal.loop-page-init
@@ -15,10 +15,10 @@ loop-page-preserved c =
     let n = c.loop-page.page in
     let h : n < length t = omega arith in (
       length-set t n c.resting.result ∙ c.loop-page.invariant.0,
-      filled_more c.args.marks.now n t c.resting.result h c.loop-page.invariant.1 (c.resting.ensures ∙ ap rest_page c.page-bytes.ensures),
+      filled_more c.args.marks.now n t c.resting.result h c.loop-page.invariant.1 (c.resting.ensures ∙ ap rest_page c.page_bytes.ensures),
     )
 
 pub returns : goal.returns
 returns c =
-    let filled = filled-all c.args.marks.now c.args.pages c.loop-page.page c.loop-page.table (omega arith) c.loop-page.invariant.1 in
-    record { each = filled; found = found-from-filled c.args.marks.now c.args.pages c.loop-page.table filled }
+    let filled = filled_all c.args.marks.now c.args.pages c.loop-page.page c.loop-page.table (omega arith) c.loop-page.invariant.1 in
+    record { each = filled; found = found_from_filled c.args.marks.now c.args.pages c.loop-page.table filled }

@@ -10,5 +10,5 @@ pub returns : goal.returns
 unfolding run
 returns g c =
     let m = g.R.Rack.meaning in
-    subst (λ (v : List ℕ). Plays (headed v) (m c.args.rack.now) (result_err c.settle-run.result) (m c.settle-run.new.rack))
-    (c.block.ensures ∙ (ap head_block c.next-head.ensures ∙ raised c.args.head)) c.settle-run.ensures
+    subst (λ (v : List ℕ). Plays (headed v) (m c.args.rack.now) (result_err c.settle_run.result) (m c.settle_run.new.rack))
+    (c.block.ensures ∙ (ap head_block c.next_head.ensures ∙ raised c.args.head)) c.settle_run.ensures

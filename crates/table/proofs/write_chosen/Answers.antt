@@ -8,8 +8,8 @@ loop-page-init g c = writing-none c.args.chosen.now c.args.table.now c.args.page
 pub loop-page-preserved : goal.loop-page-preserved
 loop-page-preserved g c =
     let m = g.R.Rack.meaning in
-    writing_more c.args.chosen.now c.args.table.now c.args.pages (m c.args.rack.now) c.loop-page.page (m c.loop-page.rack) (m c.write-page.new.rack)
-    c.loop-page-test.true c.loop-page.invariant c.in-ok-write-page.ensures
+    writing_more c.args.chosen.now c.args.table.now c.args.pages (m c.args.rack.now) c.loop-page.page (m c.loop-page.rack) (m c.write_page.new.rack)
+    c.loop-page-test.true c.loop-page.invariant c.in_ok-write_page.ensures
 
 pub returns : goal.returns
 returns g c =
@@ -17,10 +17,10 @@ returns g c =
     writing-all c.args.chosen.now c.args.table.now c.args.pages (m c.args.rack.now) c.loop-page.page (m c.loop-page.rack)
     c.loop-page-test.false c.loop-page.invariant
 
-pub returns-in-err-write-page : goal.returns-in-err-write-page
-returns-in-err-write-page g c =
+pub returns-in_err-write_page : goal.returns-in_err-write_page
+returns-in_err-write_page g c =
     let m = g.R.Rack.meaning in
-    let p = err_from_is_err_and c.from-residual.result c.from-residual.ensures.1 in
+    let p = err_from_is_err_and c.from_residual.result c.from_residual.ensures.1 in
     rw (p.1, p.2)
-    (writing-stops c.args.chosen.now c.args.table.now c.args.pages (m c.args.rack.now) c.loop-page.page (m c.loop-page.rack) (m c.write-page.new.rack) _
-    c.loop-page-test.true c.loop-page.invariant c.in-err-write-page.ensures)
+    (writing-stops c.args.chosen.now c.args.table.now c.args.pages (m c.args.rack.now) c.loop-page.page (m c.loop-page.rack) (m c.write_page.new.rack) _
+    c.loop-page-test.true c.loop-page.invariant c.in_err-write_page.ensures)

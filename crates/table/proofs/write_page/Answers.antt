@@ -1,14 +1,14 @@
 use Rattle.std.proofs.Common.{◌≡◌, false, get_or, arith}
 use Rattle.std.proofs.lemmas.List.{get_or_past}
-use Rattle.table.proofs.Writing.{page-written, page-passed}
+use Rattle.table.proofs.Writing.{page_written, page_passed}
 use Rattle.table.proofs.write_page.Goals as goal
 use Rattle.table.proofs.write_page.Goals.{else-i-lt64-via-then-i-lt64+else-chosen-i, else-i-lt64-via-else-i-lt64}
 
 pub returns-then-chosen-i : goal.returns-then-chosen-i
 returns-then-chosen-i g c =
     let m = g.R.Rack.meaning in
-    page-written c.args.chosen.now c.args.table.now c.args.page (m c.args.rack.now) (m c.put-page.new.rack) c.put-page.result
-    c.if-chosen-i.true c.put-page.ensures.answers c.put-page.ensures.leaves
+    page_written c.args.chosen.now c.args.table.now c.args.page (m c.args.rack.now) (m c.put_page.new.rack) c.put_page.result
+    c.if-chosen-i.true c.put_page.ensures.answers c.put_page.ensures.leaves
 
 pub returns-else-i-lt64 : goal.returns-else-i-lt64
 returns-else-i-lt64 g c =
@@ -18,4 +18,4 @@ returns-else-i-lt64 g c =
       | else-i-lt64-via-else-i-lt64 w ↦ get_or_past c.args.chosen.now c.args.page false (omega arith)
     ]
     in
-    page-passed c.args.chosen.now c.args.table.now c.args.page (g.R.Rack.meaning c.args.rack.now) e
+    page_passed c.args.chosen.now c.args.table.now c.args.page (g.R.Rack.meaning c.args.rack.now) e

@@ -8,5 +8,5 @@ pub returns : goal.returns
 unfolding zeros
 returns c =
     let f = c.args.front.now in
-    let e = over_zeros 512 f c.copy-from-slice.new.self c.copy-from-slice.ensures.after in
+    let e = over_zeros 512 f c.copy_from_slice.new.self c.copy_from_slice.ensures.after in
     record { value = e; start = ap (take (length f)) e ∙ take_at f _ (length f) refl }

@@ -9,4 +9,4 @@ pub returns-in-Ok : goal.returns-in-Ok
 returns-in-Ok c =
     let m = shown (kept_in c.args.self.now.rack) in
     let told = c.in-Ok.ensures in
-    rw (c.name-of.ensures, c.name-of-2.ensures) at (read_shows m _ _ c.read.new.buf _ told.answers told.fills)
+    rw (c.name_of.ensures, c.name_of-2.ensures) at (read_shows m _ _ c.read.new.buf _ told.answers told.fills)

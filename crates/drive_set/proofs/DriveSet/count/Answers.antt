@@ -5,5 +5,5 @@ use Rattle.drive_set.proofs.DriveSet.count.Goals as goal
 
 pub returns : goal.returns
 returns c =
-    let counted : c.set-bits.result ≡ tally (holds c.args.self) 16 = c.set-bits.ensures ∙ ones_held c.args.self (search rules) in
+    let counted : c.set_bits.result ≡ tally (holds c.args.self) 16 = c.set_bits.ensures ∙ ones_held c.args.self (search rules) in
     record { counts = counted; all = counts_all _ _ counted; more = counts_more _ _ counted }

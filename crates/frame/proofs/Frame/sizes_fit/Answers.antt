@@ -6,21 +6,21 @@ use Rattle.frame.proofs.Every.{every_more, every_false}
 use Rattle.frame.proofs.Fitting.{blocks_there}
 use Rattle.frame.proofs.Frame.sizes_fit.Goals as goal
 
-pub returns-then-blocks-on-self : goal.returns-then-blocks-on-self
-returns-then-blocks-on-self g c =
+pub returns-then-blocks_on-self : goal.returns-then-blocks_on-self
+returns-then-blocks_on-self g c =
     let m = g.R.Rack.meaning c.args.rack.now in
     let z = shape_in c.args.self.now in
     let d = c.loop-drive.drive in
-    let is : c.blocks-on.result ≡ m.size d = cc (blocks_there m d (omega arith)) in
-    sym (every_false (λ k. eqb (m.size k) (z.blocks k)) (suc z.logs) d (omega arith) (ne_eqb (m.size d) (z.blocks d) (λ p. c.if-blocks-on-self.true (is ∙ p))))
+    let is : c.blocks_on.result ≡ m.size d = cc (blocks_there m d (omega arith)) in
+    sym (every_false (λ k. eqb (m.size k) (z.blocks k)) (suc z.logs) d (omega arith) (ne_eqb (m.size d) (z.blocks d) (λ p. c.if-blocks_on-self.true (is ∙ p))))
 
 pub loop-drive-preserved : goal.loop-drive-preserved
 loop-drive-preserved g c =
     let m = g.R.Rack.meaning c.args.rack.now in
     let z = shape_in c.args.self.now in
     let d = c.loop-drive.drive in
-    let is : c.blocks-on.result ≡ m.size d = cc (blocks_there m d (omega arith)) in
-    every_more (λ k. eqb (m.size k) (z.blocks k)) d c.loop-drive.invariant (eq-eqb (m.size d) (z.blocks d) (sym is ∙ c.if-blocks-on-self.false))
+    let is : c.blocks_on.result ≡ m.size d = cc (blocks_there m d (omega arith)) in
+    every_more (λ k. eqb (m.size k) (z.blocks k)) d c.loop-drive.invariant (eq-eqb (m.size d) (z.blocks d) (sym is ∙ c.if-blocks_on-self.false))
 
 pub returns : goal.returns
 returns g c =

@@ -11,7 +11,7 @@ returns-in-Ok g c =
     let m = g.R.Rack.meaning c.args.rack.now in
     let found = c.in-Ok.ensures in
     let pages : c.pages.result ≡ found.head.pages = c.pages.ensures.value ∙ ap (λ (z : Shape). z.pages) found.shape in
-    let read = c.read-pages.ensures (subst (λ (n : ℕ). CanRead m n (length c.args.marks.now)) (sym pages) found.can) ∙ ap (drive_marks m) pages in
+    let read = c.read_pages.ensures (subst (λ (n : ℕ). CanRead m n (length c.args.marks.now)) (sym pages) found.can) ∙ ap (drive_marks m) pages in
     record { does = does_open m _ _ _ found _ _ read c.empty-taken.ensures; untouched = tt }
 
 pub returns-in-Err : goal.returns-in-Err

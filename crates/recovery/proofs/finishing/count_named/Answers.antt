@@ -11,7 +11,7 @@ unfolding tally
 loop-page-preserved c =
     let f = λ (p : ℕ). get_or c.args.named.now p false in
     let e : tally f (c.loop-page.page + 1) ≡ tally f c.loop-page.page + cond (f c.loop-page.page) 1 0 = rw add-one refl in
-    (omega arith, omega (arith, e, c.loop-page.invariant.1, c.is-named-count.ensures.value))
+    (omega arith, omega (arith, e, c.loop-page.invariant.1, c.is_named-count.ensures.value))
 
 pub returns : goal.returns
 returns c =

@@ -5,5 +5,5 @@ use Rattle.script.proofs.values.hex.Goals as goal
 
 pub loop-rest-preserved : goal.loop-rest-preserved
 loop-rest-preserved c =
-    let more = bytes_more _ _ _ _ c.loop-rest-test.true c.in-Some.ensures c.in-ok-push.ensures.items in
+    let more = bytes_more _ _ _ _ c.loop-rest-test.true c.in-Some.ensures c.in_ok-push.ensures.items in
     simp take_rest (more ∙ c.loop-rest.invariant)

@@ -9,12 +9,12 @@ use Rattle.script.proofs.words.Words.next.Goals.{then-n-rest, else-n-rest}
 
 pub returns : goal.returns
 returns c =
-    let was = ap words_of c.in-ok-rest.was in
+    let was = ap words_of c.in_ok-rest.was in
     elim c.if-n-rest.branch [
       | then-n-rest w ↦
-          let all = was ∙ split_at _ _ c.word-length-n.ensures.value w.if-n-rest.true in
-          record { word = rw sub-zero (sym (ap first all)); rest = ap words_of w.self-is ∙ ap words (take_rest c.in-ok-rest.rest.now (c.word-length-n.result + 1)) ∙ sym (ap (drop 1) all) }
+          let all = was ∙ split_at _ _ c.word_length-n.ensures.value w.if-n-rest.true in
+          record { word = rw sub-zero (sym (ap first all)); rest = ap words_of w.self-is ∙ ap words (take_rest c.in_ok-rest.rest.now (c.word_length-n.result + 1)) ∙ sym (ap (drop 1) all) }
       | else-n-rest w ↦
-          let all = was ∙ split_all _ _ c.word-length-n.ensures.value w.if-n-rest.false in
+          let all = was ∙ split_all _ _ c.word_length-n.ensures.value w.if-n-rest.false in
           record { word = rw sub-zero (sym (ap first all)); rest = ap words_of w.self-is ∙ sym (ap (drop 1) all) }
     ]
