@@ -1,11 +1,15 @@
 -- What a loop over words or digits has read so far, before what is still to come.
-use Rattle.std.proofs.Common.{◌≡◌, ℕ, ◌≤◌, List, [], ◌∷◌, ◌++◌, length, get_or, drop, Some, None, Option, refl, ap, ◌∙◌, append_assoc, arith}
+use Rattle.std.proofs.Common.{◌≡◌, ℕ, false, eqb, rules, ◌≤◌, List, [], ◌∷◌, ◌++◌, length, get_or, drop, Some, None, Option, refl, ap, ◌∙◌, append_assoc, arith}
 use Rattle.std.specs.Option.{option_map}
-use Rattle.script.specs.Values.{both, number_in, numbers_in, byte_in, bytes_in}
+use Rattle.script.specs.Values.{both, number_in, numbers_in, byte_in, bytes_in, hex_in}
 use Rattle.script.specs.Words.{Word, first}
 
 abbrev pub upon : {X : Type 0} → List X → Option (List X) → Option (List X)
 upon xs o = option_map (λ ys. xs ++ ys) o
+
+upon_none : {X : Type 0} (o : Option (List X)) → upon [] o ≡ o
+upon_none None = refl
+upon_none (Some ys) = refl
 
 upon_more : {X : Type 0} (xs : List X) (x : X) (o : Option (List X)) → upon (xs ++ x ∷ []) o ≡ upon xs (both ◌∷◌ (Some x) o)
 upon_more xs x None = refl
@@ -23,3 +27,8 @@ pub bytes_more : (bs new : List ℕ) (b : ℕ) (w : Word) → 2 ≤ length w →
 bytes_more bs new b [] h r e = absurd (omega arith)
 bytes_more bs new b (x ∷ []) h r e = absurd (omega arith)
 bytes_more bs new b (x ∷ y ∷ w) h r e = rw e (upon_more bs b (bytes_in w) ∙ ap (λ o. upon bs (both ◌∷◌ o (bytes_in w))) r)
+
+-- before the first digits of a word that has some
+pub bytes_begun : (bs : List ℕ) (w : Word) → bs ≡ [] → false ≡ eqb (length w) 0 → upon bs (bytes_in w) ≡ hex_in w
+bytes_begun bs [] e h = absurd (search rules)
+bytes_begun bs (x ∷ w) e h = rw e (upon_none (bytes_in (x ∷ w)))

@@ -3,8 +3,8 @@ use Rattle.change.proofs.PairLists.{total_more}
 use Rattle.logs.proofs.Runs.{pairs_more, pairs_all}
 use Rattle.logs.proofs.offers.apply_pairs.Goals as goal
 
-pub slice-bounds-apply_run-end : goal.slice-bounds-apply_run-end
-slice-bounds-apply_run-end c =
+pub slice_bounds-apply_run-end : goal.slice_bounds-apply_run-end
+slice_bounds-apply_run-end c =
     let t = total_more c.loop-pair.pair-index c.args.pairs.now c.loop-pair-test.true in
     search rules
 
