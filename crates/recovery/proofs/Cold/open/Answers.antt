@@ -20,5 +20,5 @@ returns-in-Err g c =
     let m = g.R.Rack.meaning c.args.rack.now in
     record { does = does_refused (opening (length c.args.marks.now) m) cold m _ c.in-Err.ensures; untouched = refl }
 
-pub invariant-of-result : goal.invariant-of-result
-invariant-of-result g c = let found = c.in-Ok.ensures in (ap legal found.shape ∙ found.legal, tt)
+pub invariant_of-result : goal.invariant_of-result
+invariant_of-result g c = let found = c.in-Ok.ensures in record { legal = ap legal found.shape ∙ found.legal }
