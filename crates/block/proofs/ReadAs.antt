@@ -1,12 +1,12 @@
 -- What reads back is what `read_as` gives.
-use Rattle.std.proofs.Common.{◌≡◌, ℕ, Bool, true, false, cond, ◌&&◌, eqb, leb, List, length, Some, None, Option, sym, refl, ap, ◌∙◌, arith}
+use Rattle.std.proofs.Common.{◌≡◌, ℕ, Bool, true, false, cond, ◌&&◌, eqb, leb, List, length, Some, None, Option, sym, refl, ap, ◌∙◌}
 use Rattle.std.proofs.lemmas.Bool.{eqb-true, eq-eqb, and_parts, and_from, leb-true, le-leb}
 use Rattle.std.proofs.lemmas.Slice.Eq.{bytes_eq-Decides}
 use Rattle.std.specs.Str.{bytes_eq}
 use Rattle.block.specs.Bytes.{ReadsBack}
 use Rattle.block.specs.Readings.{read_as, head_fine, head_in, commit_fine, commit_in}
-use Rattle.block.specs.Heads.{HeadOk, head_block, head_of, HeadShaped}
-use Rattle.block.specs.Commits.{CommitOk, commit_block, commit_of, CommitShaped}
+use Rattle.block.specs.Heads.{HeadOk, head_block}
+use Rattle.block.specs.Commits.{CommitOk, commit_block, commit_of}
 use Rattle.block.specs.declared.Head.{Head}
 use Rattle.block.specs.declared.commits.Commit.{Commit}
 use Rattle.block.proofs.Numbers.{AllBytes}

@@ -1,5 +1,5 @@
 -- A reader of changes gives what `change_in` says.
-use Rattle.std.proofs.Common.{◌≡◌, ℕ, Bool, true, cond, ◌&&◌, leb, List, length, Some, None, Option, sym, refl, ap, ◌∙◌, arith}
+use Rattle.std.proofs.Common.{◌≡◌, ℕ, true, ◌&&◌, leb, List, length, Some, Option, refl}
 use Rattle.std.proofs.lemmas.Bool.{and_parts, and_from, leb-true, le-leb}
 use Rattle.block.specs.Bytes.{ReadsBack}
 use Rattle.block.proofs.Numbers.{AllBytes}

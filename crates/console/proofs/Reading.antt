@@ -1,10 +1,9 @@
 -- A read that is done had its place, and gave what the block holds.
-use Rattle.std.proofs.Common.{◌≡◌, ℕ, Bool, true, false, cond, List, Some, None, Ok, Err, Option, Result, ap, arith}
+use Rattle.std.proofs.Common.{◌≡◌, ℕ, Bool, true, false, cond, Some, None, Ok, Option, Result, ap, arith}
 use Rattle.rack.specs.declared.RackFault.{RackFault}
 use Rattle.rack.specs.declared.RackFault.TheVariants.{NoPlace}
 use Rattle.rack.specs.Meaning.{Block as Value, Meaning, newest}
 use Rattle.rack.specs.Answers.{within, answer, unreadable_fault, read_fault, or_old}
-use Rattle.script.specs.declared.answers.Answer.{Answer}
 use Rattle.script.specs.declared.answers.Answer.TheVariants.{Block, Refused}
 use Rattle.console.specs.Station.{value_answer, block_answer}
 

@@ -24,7 +24,7 @@ use Rattle.model.specs.Outcome.{Does, reply_of}
 use Rattle.model.specs.Format.{formatting}
 use Rattle.script.specs.Commands.{Said, rack, format, left, block, poke, tear, stop}
 use Rattle.script.specs.declared.answers.Answer.{Answer}
-use Rattle.script.specs.declared.answers.Answer.TheVariants.{Done, Number, Block, Refused, NotNow, Unknown}
+use Rattle.script.specs.declared.answers.Answer.TheVariants.{Done, Number, Block, Refused, Unknown}
 use Rattle.console.specs.declared.Station.{Station}
 use Rattle.console.specs.declared.Step.{Step}
 use Rattle.console.specs.declared.Step.TheVariants.{Say, Build}

@@ -3,7 +3,7 @@ use Rattle.std.specs.Prelude.{◌≡◌, ℕ, Bool, true, false, cond, ◌⊎◌
 use Rattle.std.proofs.Common.{inl, inr, arith}
 use Rattle.std.proofs.lemmas.Bool.{eq-eqb, eqb-true, true≢false}
 use Rattle.std.proofs.lemmas.Bool.Decides.{nat_tests}
-use Rattle.later.specs.Order.{TotalOrder, by_first, by_fields}
+use Rattle.later.specs.Order.{TotalOrder, by_fields}
 
 pub numbers_ordered : TotalOrder nat_le
 numbers_ordered = record {

@@ -1,5 +1,5 @@
 -- A scan goes from block to block, and puts what each block gives into a state as it goes.
-use Rattle.std.proofs.Common.{◌≡◌, ℕ, zero, suc, ◌+◌, ◌-◌, ◌<◌, ◌≤◌, Bool, true, List, [], ◌∷◌, ◌++◌, set, sym, refl, ap, ◌∙◌, arith}
+use Rattle.std.proofs.Common.{◌≡◌, ℕ, zero, suc, ◌+◌, ◌-◌, ◌<◌, ◌≤◌, Bool, true, List, [], ◌∷◌, ◌++◌, set, refl, arith}
 use Rattle.rack.specs.Meaning.{Meaning}
 use Rattle.later.specs.Keeping.{kept_later, kept_all}
 use Rattle.model.specs.Logs.{value_at, record_of, given, commits_from, offered, offers_from, named, named_from}

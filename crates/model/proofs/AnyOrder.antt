@@ -1,7 +1,7 @@
 -- Neither the order in which logs are taken nor how often counts for the marks.
-use Rattle.std.proofs.Common.{◌≡◌, ℕ, ◌<◌, true, ◌⊎◌, List, [], ◌∷◌, ◌++◌, length, get_or, sym, refl, ap, ◌∙◌, subst, inl, inr, ⊎_elim}
+use Rattle.std.proofs.Common.{◌≡◌, ℕ, true, ◌⊎◌, List, [], ◌∷◌, ◌++◌, get_or, sym, refl, subst, inl, inr, ⊎_elim}
 use Rattle.later.specs.declared.Mark.{Mark}
-use Rattle.later.specs.Keeping.{kept_all, came_to, latest, Among, SameMembers, KeepsTheLatest}
+use Rattle.later.specs.Keeping.{came_to, Among, KeepsTheLatest}
 use Rattle.later.specs.Stamps.{mark_upto}
 use Rattle.later.proofs.Places.{keeps_the_latest}
 use Rattle.later.specs.Marks.{marks_ordered}

@@ -1,8 +1,7 @@
 -- Every stroke that ends a round has its place.
-use Rattle.std.proofs.Common.{◌≡◌, ℕ, zero, suc, ◌+◌, ◌<◌, ◌≤◌, Bool, true, false, cond, List, [], ◌∷◌, ◌++◌, length, refl, ap, ◌∙◌, arith}
+use Rattle.std.proofs.Common.{◌≡◌, ℕ, zero, suc, ◌+◌, ◌<◌, ◌≤◌, Bool, true, false, cond, List, ◌∷◌, ◌++◌, length, arith}
 use Rattle.std.proofs.lemmas.Bool.{lt-ltb}
 use Rattle.rack.specs.Meaning.{Meaning}
-use Rattle.strokes.specs.declared.Stroke.{Stroke}
 use Rattle.strokes.specs.declared.Stroke.TheVariants.{Write, Flush}
 use Rattle.strokes.specs.Plan.{placed, Placed}
 use Rattle.strokes.proofs.Exactly.{placed_append}

@@ -1,17 +1,17 @@
 -- What stands after all strokes of a format.
-use Rattle.std.proofs.Common.{◌≡◌, ℕ, zero, suc, ◌+◌, ◌-◌, ◌<◌, ◌≤◌, Bool, true, ◌&&◌, eqb, ltb, leb, List, [], ◌∷◌, ◌++◌, length, Some, sym, refl, ap, ◌∙◌, subst, ⊎_elim, arith}
+use Rattle.std.proofs.Common.{◌≡◌, ℕ, zero, suc, ◌+◌, ◌-◌, ◌<◌, ◌≤◌, true, ◌&&◌, eqb, ltb, leb, List, [], ◌∷◌, ◌++◌, length, sym, refl, ◌∙◌, subst, ⊎_elim, arith}
 use Rattle.std.proofs.lemmas.List.{length-append}
 use Rattle.std.proofs.lemmas.Bool.{eq-eqb, cases_eq, and_parts, and_from, leb-true, lt-ltb}
 use Rattle.rack.specs.Meaning.{Block, Meaning, Alike, Stands, newest}
 use Rattle.rack.proofs.Settling.{newest_written}
 use Rattle.strokes.specs.declared.Stroke.{Stroke}
 use Rattle.strokes.specs.declared.Stroke.TheVariants.{Write, Flush}
-use Rattle.strokes.specs.Plan.{Strokes, Placed, placed, run, shows}
+use Rattle.strokes.specs.Plan.{Strokes, Placed, placed, run}
 use Rattle.strokes.proofs.Exactly.{placed_append}
 use Rattle.strokes.proofs.Composing.{strokes_left}
 use Rattle.strokes.proofs.Runs.{placed_run, length_run}
 use Rattle.strokes.proofs.Showing.{plans_show}
-use Rattle.strokes.proofs.Standing.{strokes_split, alike_strokes, Elsewhere, elsewhere_append, flush_stands, strokes_stand, run_off_drive, run_above, shows_run}
+use Rattle.strokes.proofs.Standing.{strokes_split, alike_strokes, Elsewhere, elsewhere_append, flush_stands, strokes_stand, run_off_drive, shows_run}
 use Rattle.block.specs.Bytes.{zeros}
 use Rattle.block.specs.Pages.{page_block}
 use Rattle.block.proofs.Zeros.{length_zeros}

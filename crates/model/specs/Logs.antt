@@ -16,7 +16,7 @@
 --   offers_from ns pages ρ m d b n    the marks that the n blocks of drive d from b on offer, each with its place
 --   named pages r                     the page that the record r names
 --   named_from pages ρ m d b n        the pages that the n blocks of drive d from b on name
-use Rattle.std.specs.Prelude.{ℕ, zero, suc, ◌+◌, ◌*◌, Bool, true, false, cond, not, ◌&&◌, List, [], ◌∷◌, ◌++◌, map, take, drop, Some, None, Option, ◌==◌, nat_lt, slice_index}
+use Rattle.std.specs.Prelude.{ℕ, zero, suc, ◌+◌, ◌*◌, Bool, true, false, cond, not, ◌&&◌, List, [], ◌∷◌, ◌++◌, take, drop, Some, None, Option, ◌==◌, nat_lt, slice_index}
 use Rattle.rack.specs.Meaning.{Block, Meaning, newest}
 use Rattle.rack.specs.Answers.{within}
 use Rattle.block.specs.Bytes.{at4}
@@ -26,7 +26,7 @@ use Rattle.change.specs.Changes.{Content}
 use Rattle.change.specs.Readings.{change_in}
 use Rattle.change.specs.declared.runs.Pair.{Pair}
 use Rattle.later.specs.declared.Stamp.{Stamp}
-use Rattle.later.specs.declared.Stamp.TheVariants.{Drive, Before, After}
+use Rattle.later.specs.declared.Stamp.TheVariants.{Before, After}
 use Rattle.later.specs.declared.Mark.{Mark}
 
 abbrev pub value_at : Meaning → ℕ → ℕ → Option Block

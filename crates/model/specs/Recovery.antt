@@ -19,7 +19,7 @@
 --   applied a ks d m       the marks, with those that log d offers
 --   apply_fault a k d m    why log d cannot be taken into k marks
 --   apply_of a ks d m      the outcome of apply of log d
-use Rattle.std.specs.Prelude.{ℕ, zero, suc, ◌+◌, ◌-◌, ◌*◌, Bool, true, false, cond, not, ◌&&◌, ◌||◌, leb, List, [], ◌∷◌, ◌++◌, map, length, set, replicate, Some, None, Option, ◌==◌, nat_le, slice_set}
+use Rattle.std.specs.Prelude.{ℕ, zero, suc, ◌+◌, ◌-◌, ◌*◌, Bool, true, false, cond, not, ◌&&◌, ◌||◌, leb, List, [], ◌∷◌, ◌++◌, map, length, replicate, Some, None, Option, ◌==◌, nat_le, slice_set}
 use Rattle.rack.specs.declared.RackFault.TheVariants.{NoPlace}
 use Rattle.rack.specs.Meaning.{Block, Meaning}
 use Rattle.block.specs.declared.Head.{Head}

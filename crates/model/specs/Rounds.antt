@@ -9,7 +9,7 @@
 --   is_named a p           a counting change names page p
 --   finish_fault a k m     why finish is refused with k marks, if it is
 --   finishing a ks m       the outcome of finish
-use Rattle.std.specs.Prelude.{ℕ, zero, suc, ◌*◌, Bool, true, false, cond, not, List, [], ◌∷◌, ◌++◌, map, length, take, drop, None, Option, ◌==◌, nat_le, nat_lt, slice_index_or}
+use Rattle.std.specs.Prelude.{ℕ, zero, suc, ◌*◌, Bool, false, cond, not, List, [], ◌∷◌, ◌++◌, map, length, take, drop, None, Option, ◌==◌, nat_le, nat_lt, slice_index_or}
 use Rattle.rack.specs.declared.RackFault.TheVariants.{NoPlace}
 use Rattle.rack.specs.Meaning.{Meaning}
 use Rattle.strokes.specs.declared.Stroke.{Stroke}
@@ -19,7 +19,7 @@ use Rattle.later.specs.declared.Mark.{Mark}
 use Rattle.drive_set.specs.Sets.{tally}
 use Rattle.model.specs.declared.Refusal.{Refusal}
 use Rattle.model.specs.declared.Refusal.TheVariants.{LastRound, BadLog, BadLength, Rack}
-use Rattle.model.specs.Store.{Shape, Page, Warm, Applying, Store, cold, warm, fits}
+use Rattle.model.specs.Store.{Shape, Page, Warm, Applying, cold, warm, fits}
 use Rattle.model.specs.Outcome.{Outcome, numbers}
 use Rattle.model.specs.Format.{head_at, headed}
 use Rattle.model.specs.Recovery.{when, untaken, committed}

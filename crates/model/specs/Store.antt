@@ -12,7 +12,7 @@
 --   Collecting          a store that takes commit records: the commit number of each set, and which logs are taken
 --   Applying            a store that takes change records: besides, which pages a change names
 --   Store               the state of a store, with the caller's marks where they belong to it; it starts cold
-use Rattle.std.specs.Prelude.{ℕ, zero, suc, ◌+◌, ◌-◌, Bool, true, false, cond, ◌&&◌, ◌||◌, List, ◌==◌, nat_eq, nat_le, nat_lt}
+use Rattle.std.specs.Prelude.{ℕ, zero, suc, ◌-◌, Bool, true, false, cond, ◌&&◌, ◌||◌, List, ◌==◌, nat_eq, nat_le, nat_lt}
 use Rattle.rack.specs.Meaning.{Meaning}
 use Rattle.later.specs.declared.Mark.{Mark}
 

@@ -1,7 +1,7 @@
 -- Pages put one after another into the marks.
-use Rattle.std.proofs.Common.{◌≡◌, ℕ, zero, suc, ◌+◌, ◌*◌, ◌<◌, ◌≤◌, List, [], ◌∷◌, ◌++◌, map, length, take, drop, Some, None, Option, sym, refl, ap, ◌∙◌, subst, ap₂, zero-add, add-one, arith}
+use Rattle.std.proofs.Common.{◌≡◌, ℕ, suc, ◌+◌, ◌*◌, List, [], ◌++◌, map, length, Some, None, Option, sym, refl, ap, ◌∙◌, ap₂, zero-add, add-one, arith}
 use lib.Seq.{paste}
-use Rattle.std.proofs.lemmas.List.{length-map, length-append, length-take, append-nil, drop_all}
+use Rattle.std.proofs.lemmas.List.{length-map, length-append, append-nil, drop_all}
 use Rattle.std.proofs.lemmas.List.Edits.{paste_none, paste_all, paste-paste}
 use Rattle.rack.specs.Meaning.{Block, Meaning}
 use Rattle.block.specs.Pages.{page_content}

@@ -1,9 +1,9 @@
 -- What each call answers, by the facts that its tests give.
-use Rattle.std.proofs.Common.{◌≡◌, ℕ, ◌<◌, ◌≤◌, Bool, true, false, cond, ◌&&◌, eqb, ltb, Some, None, Ok, Err, Option, Result, sym, refl, subst, arith}
-use Rattle.std.proofs.lemmas.Bool.{eq-eqb, ne_eqb, lt-ltb, le-ltb, ltb-true}
+use Rattle.std.proofs.Common.{◌≡◌, ℕ, ◌<◌, Bool, true, false, cond, ◌&&◌, eqb, ltb, Some, Ok, Err, Result, sym, refl, subst, arith}
+use Rattle.std.proofs.lemmas.Bool.{eq-eqb, ne_eqb, lt-ltb, ltb-true}
 use Rattle.rack.specs.declared.RackFault.{RackFault}
-use Rattle.rack.specs.declared.RackFault.TheVariants.{NoStroke, NoPlace, Unreadable, BadLength, TooSmall, BadShape}
-use Rattle.rack.specs.Meaning.{Meaning, Slot, Block, newest, Early}
+use Rattle.rack.specs.declared.RackFault.TheVariants.{NoPlace, BadLength}
+use Rattle.rack.specs.Meaning.{Meaning, newest, Early}
 use Rattle.rack.specs.Answers.{unreadable_fault, stroke_fault, write_fault, read_fault, flush_fault, answer, blocks_answer, Leaves}
 
 pub write_ok : (m : Meaning) (d b n : ℕ) → n ≡ 512 → d < m.count → b < m.size d → (m.left ≡ 0 → ⊥) → answer (write_fault m d b n) ≡ Ok tt

@@ -1,8 +1,7 @@
 -- Laws of settled values.
-use Rattle.std.proofs.Common.{◌≡◌, ℕ, ◌-◌, ◌<◌, ◌≤◌, Bool, true, false, cond, ◌&&◌, eqb, List, [], ◌∷◌, ◌++◌, Some, None, Option, sym, refl, ap, ◌∙◌, subst, append_assoc}
+use Rattle.std.proofs.Common.{◌≡◌, ℕ, ◌-◌, ◌<◌, Bool, true, false, cond, ◌&&◌, eqb, List, [], ◌∷◌, ◌++◌, Some, Option, sym, refl, ap, ◌∙◌, append_assoc}
 use Rattle.std.proofs.lemmas.Bool.{eq-eqb}
-use Rattle.std.proofs.lemmas.List.{append-nil}
-use Rattle.rack.specs.Meaning.{Meaning, Slot, Block, last_or, newest, more, calm, Settles, Alike, Early, written, flushed}
+use Rattle.rack.specs.Meaning.{Meaning, Slot, Block, last_or, newest, more, calm, Settles, Early, written, flushed}
 use Rattle.rack.specs.Cut.{CutSlot, Cut}
 use Rattle.rack.specs.Cut.CutSlot.{keeps, lands, tears}
 

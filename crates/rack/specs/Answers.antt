@@ -8,7 +8,7 @@
 --   fetched r o old        what a read with the answer r leaves in a buffer that held old, where the block holds o
 --   Leaves r w m n         a stroke with the answer r leaves the rack n: up to early settling w if it was made, else m
 --   fault_number f         the fault's number in the table of refusals
-use Rattle.std.specs.Prelude.{◌≡◌, ℕ, Bool, cond, ◌&&◌, List, Some, None, Ok, Err, Option, Result, ◌==◌, nat_lt}
+use Rattle.std.specs.Prelude.{◌≡◌, ℕ, Bool, cond, ◌&&◌, Some, None, Ok, Err, Option, Result, ◌==◌, nat_lt}
 use Rattle.rack.specs.declared.RackFault.{RackFault}
 use Rattle.rack.specs.declared.RackFault.TheVariants.{NoStroke, NoPlace, Unreadable, BadLength, TooSmall, BadShape}
 use Rattle.rack.specs.Meaning.{Block, Meaning, Early, newest}

@@ -12,7 +12,7 @@
 --   Alike m n          the racks have the same drives with as many blocks
 --   Early m n          the rack n is m with some values settled early; nothing else differs
 --   Stands m d b v     block b of drive d holds v, settled, and nothing is pending there
-use Rattle.std.specs.Prelude.{◌≡◌, ℕ, ◌-◌, ◌<◌, cond, ◌&&◌, List, [], ◌∷◌, ◌++◌, Some, None, Option, ◌==◌}
+use Rattle.std.specs.Prelude.{◌≡◌, ℕ, ◌-◌, ◌<◌, cond, ◌&&◌, List, [], ◌∷◌, ◌++◌, Some, Option, ◌==◌}
 
 abbrev pub Block : Type 0
 Block = List ℕ

@@ -8,7 +8,7 @@ use Rattle.logs.specs.declared.Log.{Log}
 use Rattle.logs.specs.Scans.{offers_in, named_in}
 use Rattle.model.specs.declared.Refusal.{Refusal}
 use Rattle.model.specs.declared.Refusal.TheVariants.{BadLog}
-use Rattle.model.specs.Store.{Applying, Store, applying}
+use Rattle.model.specs.Store.{Applying, applying}
 use Rattle.model.specs.Outcome.{refused, number, Does}
 use Rattle.model.specs.Recovery.{is_log, also_taken, untaken, marked, apply_fault, apply_of}
 use Rattle.model.proofs.Doing.{does_refused, does_still}

@@ -1,5 +1,5 @@
 -- What collect does, from what its checks and its scan of the log gave.
-use Rattle.std.proofs.Common.{◌≡◌, ℕ, ◌≤◌, Bool, true, false, cond, not, ◌&&◌, ◌||◌, eqb, ltb, leb, List, Some, None, Option, sym, refl, ap, ◌∙◌, subst, ap₂, arith}
+use Rattle.std.proofs.Common.{◌≡◌, ℕ, ◌≤◌, Bool, true, false, not, ◌&&◌, ◌||◌, eqb, ltb, leb, List, Some, None, Option, sym, refl, ap, ◌∙◌}
 use Rattle.std.proofs.lemmas.Bool.{not-true, not-false}
 use Rattle.rack.specs.declared.RackFault.TheVariants.{NoPlace}
 use Rattle.rack.specs.Meaning.{Meaning}
@@ -9,7 +9,7 @@ use Rattle.logs.specs.declared.Log.{Log}
 use Rattle.logs.specs.Scans.{some_ill, commits_in}
 use Rattle.model.specs.declared.Refusal.{Refusal}
 use Rattle.model.specs.declared.Refusal.TheVariants.{BadLog, BadRecord, Rack}
-use Rattle.model.specs.Store.{Collecting, Store, collecting, fits}
+use Rattle.model.specs.Store.{Collecting, collecting, fits}
 use Rattle.model.specs.Outcome.{refused, number, Does}
 use Rattle.model.specs.Recovery.{when, or_else, is_log, also_taken, untaken, collect_fault, collect_of}
 use Rattle.model.proofs.Doing.{does_refused, does_still}

@@ -1,5 +1,5 @@
 -- What finish does, from how the strokes that end the round were played.
-use Rattle.std.proofs.Common.{◌≡◌, ℕ, suc, ◌+◌, ◌-◌, ◌*◌, ◌<◌, ◌≤◌, Bool, true, false, cond, not, eqb, ltb, leb, List, [], map, length, take, drop, Some, None, Option, sym, refl, ap, ◌∙◌, subst, ap₂, add-one, arith}
+use Rattle.std.proofs.Common.{◌≡◌, ℕ, suc, ◌+◌, ◌*◌, ◌<◌, Bool, true, false, cond, not, eqb, leb, List, [], map, length, take, drop, Some, None, Option, sym, ap, ◌∙◌, subst, add-one, arith}
 use Rattle.std.proofs.lemmas.List.{length-map, length-take, length-drop}
 use Rattle.std.proofs.lemmas.Bool.{eqb-true, not-false, lt-ltb}
 use Rattle.rack.specs.declared.RackFault.{RackFault}
@@ -11,7 +11,7 @@ use Rattle.table.specs.declared.Page.{Page}
 use Rattle.table.specs.Pages.{pages_in, contents_in}
 use Rattle.model.specs.declared.Refusal.{Refusal}
 use Rattle.model.specs.declared.Refusal.TheVariants.{OutOfStrokes, BadLog, BadLength, LastRound, Rack}
-use Rattle.model.specs.Store.{Shape, Warm, Applying, Store, cold, applying, warm, fits, legal}
+use Rattle.model.specs.Store.{Warm, Applying, cold, applying, warm, fits, legal}
 use Rattle.model.specs.Outcome.{refused, numbers, Does}
 use Rattle.model.specs.Recovery.{when, untaken, committed}
 use Rattle.model.specs.Rounds.{round_end, rest_page, rested, found_page, is_named, finish_fault, finishing}

@@ -1,5 +1,5 @@
 -- The four parts of a format, played one after another: where each of them may stop, and where all are played.
-use Rattle.std.proofs.Common.{◌≡◌, ℕ, ◌-◌, List, ◌++◌, Some, None, Option, Result, sym, ap, subst}
+use Rattle.std.proofs.Common.{◌≡◌, ℕ, ◌-◌, List, ◌++◌, Some, None, Option, Result, subst}
 use Rattle.std.specs.Result.{result_err}
 use Rattle.rack.specs.declared.RackFault.{RackFault}
 use Rattle.rack.specs.Meaning.{Meaning, Block}

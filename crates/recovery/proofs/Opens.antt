@@ -5,7 +5,7 @@ use Rattle.block.specs.declared.Head.{Head}
 use Rattle.later.specs.declared.Mark.{Mark}
 use Rattle.frame.specs.declared.Frame.{Frame}
 use Rattle.frame.specs.Frames.{shape_in}
-use Rattle.model.specs.Store.{Store, cold, collecting}
+use Rattle.model.specs.Store.{cold, collecting}
 use Rattle.model.specs.Outcome.{number, Does}
 use Rattle.model.specs.Recovery.{open_fault, opened, round_reply, drive_marks, opening}
 use Rattle.model.proofs.Doing.{does_still}

@@ -1,12 +1,12 @@
 -- What turn does, from how many logs are untaken.
-use Rattle.std.proofs.Common.{◌≡◌, ℕ, Bool, true, false, not, eqb, List, replicate, Some, None, sym, refl, ap, ◌∙◌}
+use Rattle.std.proofs.Common.{◌≡◌, ℕ, Bool, false, List, replicate, sym, refl, ap, ◌∙◌}
 use Rattle.std.proofs.lemmas.Bool.{eq-eqb, ne_eqb}
 use Rattle.rack.specs.Meaning.{Meaning}
 use Rattle.later.specs.declared.Mark.{Mark}
 use Rattle.model.specs.declared.Refusal.TheVariants.{BadLog}
-use Rattle.model.specs.Store.{Collecting, Store, collecting, applying}
+use Rattle.model.specs.Store.{Collecting, collecting, applying}
 use Rattle.model.specs.Outcome.{refused, number, Does}
-use Rattle.model.specs.Recovery.{when, untaken, committed, turning}
+use Rattle.model.specs.Recovery.{untaken, committed, turning}
 use Rattle.model.proofs.Doing.{does_refused, does_still}
 
 module _ (c : Collecting) (ks : List Mark) (m : Meaning) (n : ℕ) (left : n ≡ untaken c.shape c.taken) where

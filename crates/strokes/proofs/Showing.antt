@@ -1,5 +1,5 @@
 -- What can be read after a plan does not hang on what settled early.
-use Rattle.std.proofs.Common.{◌≡◌, ℕ, ◌<◌, Bool, true, false, cond, ◌&&◌, eqb, List, [], ◌∷◌, Some, sym, refl, ap, ◌∙◌, subst}
+use Rattle.std.proofs.Common.{◌≡◌, ℕ, ◌<◌, Bool, true, false, cond, ◌&&◌, eqb, [], ◌∷◌, Some, sym, refl, ap, ◌∙◌, subst}
 use Rattle.rack.specs.Meaning.{Block, Slot, Meaning, Early, newest, more, calm}
 use Rattle.rack.proofs.Settling.{last_or-++, settles_newest}
 use Rattle.strokes.specs.declared.Stroke.{Stroke}

@@ -1,10 +1,10 @@
 -- What stands in a block after a plan: a flush settles what was written, and what stands stays until the block is written again.
-use Rattle.std.proofs.Common.{◌≡◌, ℕ, zero, suc, ◌+◌, ◌<◌, ◌≤◌, Bool, true, false, cond, ◌&&◌, eqb, ◌⊎◌, List, [], ◌∷◌, ◌++◌, Some, None, Option, sym, refl, ap, ◌∙◌, subst, inl, inr, arith}
+use Rattle.std.proofs.Common.{◌≡◌, ℕ, zero, suc, ◌+◌, ◌<◌, ◌≤◌, Bool, true, false, cond, ◌&&◌, eqb, ◌⊎◌, List, [], ◌∷◌, ◌++◌, Some, Option, sym, refl, ap, ◌∙◌, subst, inl, inr, arith}
 use Rattle.std.proofs.lemmas.Bool.{eq-eqb, ne_eqb, cases_eq}
 use Rattle.rack.specs.Meaning.{Block, Slot, Meaning, Alike, Early, Settles, Stands, newest, last_or, more, calm, flushed}
 use Rattle.strokes.specs.declared.Stroke.{Stroke}
 use Rattle.strokes.specs.declared.Stroke.TheVariants.{Write, Flush}
-use Rattle.strokes.specs.Plan.{effect, Strokes, put_at, shows, run}
+use Rattle.strokes.specs.Plan.{Strokes, shows, run}
 use Rattle.strokes.proofs.Playing.{alike_refl, alike_trans, alike_stroke}
 
 -- the plan in two parts

@@ -1,5 +1,5 @@
 -- The end of a round, part after part: where it may stop, and where all of it is played.
-use Rattle.std.proofs.Common.{◌≡◌, ℕ, suc, ◌+◌, ◌<◌, Bool, List, [], ◌∷◌, ◌++◌, get_or, Some, None, Ok, Err, Result, refl, ap, arith}
+use Rattle.std.proofs.Common.{◌≡◌, ℕ, suc, ◌<◌, Bool, List, [], ◌∷◌, ◌++◌, get_or, Some, None, Ok, Err, Result, refl, ap, arith}
 use Rattle.std.proofs.lemmas.Bool.{cond_below}
 use Rattle.std.specs.Result.{result_err}
 use Rattle.rack.specs.declared.RackFault.{RackFault}

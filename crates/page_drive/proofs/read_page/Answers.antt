@@ -1,4 +1,4 @@
-use Rattle.std.proofs.Common.{◌≡◌, ℕ, suc, ◌+◌, ◌*◌, Bool, true, false, not, Some, None, Option, sym, refl, ap, ◌∙◌, add-one, arith}
+use Rattle.std.proofs.Common.{◌≡◌, ℕ, ◌*◌, not, Option, ap, ◌∙◌, add-one, arith}
 use Rattle.rack.specs.Meaning.{Block}
 use Rattle.model.specs.Logs.{value_at}
 use Rattle.model.specs.Recovery.{is_none}

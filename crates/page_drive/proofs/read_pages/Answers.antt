@@ -1,9 +1,8 @@
-use Rattle.std.proofs.Common.{◌≡◌, ℕ, suc, ◌*◌, Bool, true, not, List, length, sym, ap, ◌∙◌, subst, arith}
-use Rattle.later.specs.declared.Mark.{Mark}
+use Rattle.std.proofs.Common.{◌≡◌, suc, not, ap, ◌∙◌, arith}
 use Rattle.model.specs.Logs.{value_at}
 use Rattle.model.specs.Recovery.{is_none, drive_marks}
 use Rattle.model.proofs.SomeOf.{none_passes}
-use Rattle.page_drive.proofs.Pasting.{SoFar, so_far_none, so_far_more, so_far_all}
+use Rattle.page_drive.proofs.Pasting.{so_far_none, so_far_more, so_far_all}
 use Rattle.page_drive.proofs.read_pages.Goals as goal
 
 pub loop-page-init : goal.loop-page-init

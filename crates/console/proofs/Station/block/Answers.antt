@@ -1,7 +1,4 @@
-use Rattle.std.proofs.Common.{◌≡◌, ℕ, sym, ap, ◌∙◌}
-use Rattle.rack.specs.Meaning.{Meaning}
 use Rattle.memory_rack.specs.Memory.{kept_in, shown}
-use Rattle.console.specs.Station.{named}
 use Rattle.console.proofs.Reading.{read_shows}
 use Rattle.console.proofs.Station.block.Goals as goal
 

@@ -1,6 +1,5 @@
-use Rattle.std.proofs.Common.{◌≡◌, ◌≤◌, true, sym, arith}
-use Rattle.rack.specs.Meaning.{Meaning}
-use Rattle.model.specs.Store.{shape_of, legal, cold}
+use Rattle.std.proofs.Common.{arith}
+use Rattle.model.specs.Store.{shape_of, cold}
 use Rattle.model.specs.Format.{formatting, format_plan}
 use Rattle.model.proofs.Doing.{does_refused, does_all, does_short, all_strokes}
 use Rattle.model.proofs.Formatting.{legal_has, placed_format, formatted}

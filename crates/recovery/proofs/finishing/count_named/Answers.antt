@@ -1,4 +1,4 @@
-use Rattle.std.proofs.Common.{◌≡◌, ℕ, ◌+◌, false, cond, get_or, sym, refl, ap, ◌∙◌, add-one, arith}
+use Rattle.std.proofs.Common.{◌≡◌, ℕ, ◌+◌, false, cond, get_or, refl, ap, ◌∙◌, add-one, arith}
 use Rattle.drive_set.specs.Sets.{tally}
 use Rattle.recovery.proofs.finishing.count_named.Goals as goal
 
