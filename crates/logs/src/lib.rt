@@ -10,7 +10,7 @@
 ghost use Rattle.std.specs.Prelude.{◌≡◌, true, not, set, nat_le, slice_set};
 ghost use Rattle.later.specs.Keeping.{kept_all};
 ghost use Rattle.later.specs.Stamps.{mark_upto};
-ghost use Rattle.model.specs.Logs.{value_at, record_in, record_of, sound, ill, given, offered, named as pageNamed};
+ghost use Rattle.model.specs.Logs.{value_at, record_in, record_of, sound, ill, given, offered, named as page_named};
 ghost use Rattle.model.specs.Recovery.{marked};
 ghost use Rattle.logs.specs.Scans.{counting, some_ill, commits_in, offers_in, named_in};
 
@@ -109,7 +109,7 @@ impl Log {
         named: &mut [bool; 64],
     )
         ensures offers { marks.new ≡ kept_all mark_upto marks.old (offered numbers.now self.pages self.drive block (record_in bytes.now)) }
-        ensures names { named.new ≡ marked (pageNamed self.pages (record_in bytes.now)) named.old }
+        ensures names { named.new ≡ marked (page_named self.pages (record_in bytes.now)) named.old }
     {
         let Some(change) = Change::read(bytes) else {
             return;
@@ -130,7 +130,7 @@ impl Log {
         named: &mut [bool; 64],
     )
         ensures offers { marks.new ≡ kept_all mark_upto marks.old (offered numbers.now self.pages self.drive block (record_of self.round (value_at (R.Rack.meaning rack.now) self.drive block))) }
-        ensures names { named.new ≡ marked (pageNamed self.pages (record_of self.round (value_at (R.Rack.meaning rack.now) self.drive block))) named.old }
+        ensures names { named.new ≡ marked (page_named self.pages (record_of self.round (value_at (R.Rack.meaning rack.now) self.drive block))) named.old }
     {
         if let Some(bytes) = self.read_counting(rack, block) {
             self.take_change(&bytes, block, numbers, marks, named);

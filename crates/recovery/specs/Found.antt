@@ -7,7 +7,7 @@ use Rattle.block.specs.declared.Head.{Head}
 use Rattle.frame.specs.declared.Frame.{Frame}
 use Rattle.frame.specs.Frames.{shape_in}
 use Rattle.page_drive.specs.Pages.{CanRead}
-use Rattle.model.specs.Store.{shape_of, legal as isLegal}
+use Rattle.model.specs.Store.{shape_of, legal as is_legal}
 use Rattle.model.specs.Recovery.{head_on, open_fault}
 
 pub record Found (m : Meaning) (k : ℕ) (f : Frame) (ρ : ℕ) : Type 0 where
@@ -15,6 +15,6 @@ pub record Found (m : Meaning) (k : ℕ) (f : Frame) (ρ : ℕ) : Type 0 where
   pub stands : head_on m ≡ Some head
   pub fine : open_fault (Some head) k m ≡ None
   pub shape : shape_in f ≡ shape_of head.pages m
-  pub legal : isLegal (shape_of head.pages m) ≡ true
+  pub legal : is_legal (shape_of head.pages m) ≡ true
   pub round : ρ ≡ head.round
   pub can : CanRead m head.pages k

@@ -1,9 +1,9 @@
 // Finish: the round ends with the pages that recovery found, and the store is warm.
 ghost use Rattle.std.specs.Prelude.{◌≡◌, ◌≤◌, false, length, if◌then◌else◌, slice_index_or};
 ghost use Rattle.drive_set.specs.Sets.{tally};
-ghost use Rattle.model.specs.Store.{applying as applyingStore};
+ghost use Rattle.model.specs.Store.{applying as applying_store};
 ghost use Rattle.model.specs.Outcome.{Does};
-ghost use Rattle.model.specs.Rounds.{finish_fault, finishing as finishingOf};
+ghost use Rattle.model.specs.Rounds.{finish_fault, finishing as finishing_of};
 ghost use Rattle.recovery.specs.Views.{applying_in};
 ghost use Rattle.recovery.specs.Finish.{finished_reply, finished_store};
 
@@ -61,7 +61,7 @@ impl Applying {
     // Ends the round with the pages found; answers the committed sets and the pages written. Where strokes run out the
     // store is cold.
     pub fn finish<R: Rack>(self, rack: &mut R, marks: &[Mark]) -> Finished
-        ensures { Does (finishingOf (applying_in self) marks.now (R.Rack.meaning rack.old)) (applyingStore (applying_in self) marks.now) (R.Rack.meaning rack.old) (finished_reply result) (finished_store result marks.now) (R.Rack.meaning rack.new) }
+        ensures { Does (finishing_of (applying_in self) marks.now (R.Rack.meaning rack.old)) (applying_store (applying_in self) marks.now) (R.Rack.meaning rack.old) (finished_reply result) (finished_store result marks.now) (R.Rack.meaning rack.new) }
     {
         if let Some(refusal) = self.check_end(rack, marks.len()) {
             return Finished::Refused(self, refusal);

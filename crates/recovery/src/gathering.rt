@@ -2,7 +2,7 @@
 ghost use Rattle.std.specs.Prelude.{◌≡◌, ◌≤◌, List, if◌then◌else◌, nat_eq};
 ghost use Rattle.later.specs.declared.Mark.{Mark};
 ghost use Rattle.rack.specs.Meaning.{Meaning};
-ghost use Rattle.model.specs.Store.{collecting as collectingStore};
+ghost use Rattle.model.specs.Store.{collecting as collecting_store};
 ghost use Rattle.model.specs.Outcome.{Does};
 ghost use Rattle.model.specs.Recovery.{collect_fault, collect_of, turning, committed};
 ghost use Rattle.recovery.specs.Views.{collecting_in, number_reply, turned_reply, turned_store};
@@ -47,7 +47,7 @@ impl Collecting {
 
     // Takes the commit records of a log; answers how many logs are still untaken.
     pub fn collect<R: Rack>(&mut self, rack: &R, log: u16) -> Result<u16, Refusal>
-        ensures { (ks : List Mark) → Does (collect_of (collecting_in self.old) ks log (R.Rack.meaning rack.now)) (collectingStore (collecting_in self.old) ks) (R.Rack.meaning rack.now) (number_reply result) (collectingStore (collecting_in self.new) ks) (R.Rack.meaning rack.now) }
+        ensures { (ks : List Mark) → Does (collect_of (collecting_in self.old) ks log (R.Rack.meaning rack.now)) (collecting_store (collecting_in self.old) ks) (R.Rack.meaning rack.now) (number_reply result) (collecting_store (collecting_in self.new) ks) (R.Rack.meaning rack.now) }
     {
         if let Some(refusal) = self.check(rack, log) {
             return Err(refusal);
@@ -63,7 +63,7 @@ impl Collecting {
 
     // Ends collecting, once all logs are taken; answers how many sets are committed.
     pub fn turn(self) -> Turned
-        ensures { (ks : List Mark) (m : Meaning) → Does (turning (collecting_in self) ks) (collectingStore (collecting_in self) ks) m (turned_reply result) (turned_store result ks) m }
+        ensures { (ks : List Mark) (m : Meaning) → Does (turning (collecting_in self) ks) (collecting_store (collecting_in self) ks) m (turned_reply result) (turned_store result ks) m }
     {
         if self.scan.untaken() != 0 {
             return Turned::Refused(self, Refusal::BadLog);

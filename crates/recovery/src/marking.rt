@@ -1,6 +1,6 @@
 // An applying store: it takes the change records of each log once, in any order, into the caller's marks.
 ghost use Rattle.std.specs.Prelude.{◌≡◌, length};
-ghost use Rattle.model.specs.Store.{applying as applyingStore};
+ghost use Rattle.model.specs.Store.{applying as applying_store};
 ghost use Rattle.model.specs.Outcome.{Does};
 ghost use Rattle.model.specs.Recovery.{apply_fault, apply_of};
 ghost use Rattle.model.specs.Laws.{AnyOrder, LargestStays};
@@ -33,7 +33,7 @@ impl Applying {
     pub fn apply<R: Rack>(&mut self, rack: &R, log: u16, marks: &mut [Mark]) -> Result<u16, Refusal>
         ensures any_order { AnyOrder }
         ensures largest_stays { LargestStays }
-        ensures does { Does (apply_of (applying_in self.old) marks.old log (R.Rack.meaning rack.now)) (applyingStore (applying_in self.old) marks.old) (R.Rack.meaning rack.now) (number_reply result) (applyingStore (applying_in self.new) marks.new) (R.Rack.meaning rack.now) }
+        ensures does { Does (apply_of (applying_in self.old) marks.old log (R.Rack.meaning rack.now)) (applying_store (applying_in self.old) marks.old) (R.Rack.meaning rack.now) (number_reply result) (applying_store (applying_in self.new) marks.new) (R.Rack.meaning rack.now) }
     {
         if let Some(refusal) = self.check(rack, log, marks.len()) {
             return Err(refusal);

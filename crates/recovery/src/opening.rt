@@ -2,7 +2,7 @@
 ghost use Rattle.std.specs.Prelude.{◌≡◌, length, Some, MatchResult};
 ghost use Rattle.model.specs.Store.{cold};
 ghost use Rattle.model.specs.Outcome.{Does};
-ghost use Rattle.model.specs.Recovery.{head_on, open_fault, opening as openingOf};
+ghost use Rattle.model.specs.Recovery.{head_on, open_fault, opening as opening_of};
 ghost use Rattle.recovery.specs.Views.{opened_reply, opened_store, KeepsMarks};
 ghost use Rattle.recovery.specs.Found.{Found};
 
@@ -40,7 +40,7 @@ fn look<R: Rack>(rack: &R, marks: usize) -> Result<(Frame, u32), Refusal>
 impl Cold {
     // Reads the head and all pages; answers the round.
     pub fn open<R: Rack>(self, rack: &R, marks: &mut [Mark]) -> Opened
-        ensures does { Does (openingOf (length marks.old) (R.Rack.meaning rack.now)) cold (R.Rack.meaning rack.now) (opened_reply result) (opened_store result marks.new) (R.Rack.meaning rack.now) }
+        ensures does { Does (opening_of (length marks.old) (R.Rack.meaning rack.now)) cold (R.Rack.meaning rack.now) (opened_reply result) (opened_store result marks.new) (R.Rack.meaning rack.now) }
         ensures untouched { KeepsMarks result marks.old marks.new }
     {
         match look(rack, marks.len()) {
