@@ -4,3 +4,4 @@ pub mod PairCodec
 pub mod ChangeLaws
 pub mod ReadLaws
 pub mod ReadAs
+pub mod Overlays

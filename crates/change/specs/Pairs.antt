@@ -6,13 +6,14 @@
 --   well_paired ps      the pairs can stand in a change: there are 1 to 4, and they are in order
 --   total ps            the sum of the lengths
 --   total_in ps         that sum, if the pairs can stand in a change
+--   covering ps n       the pairs can stand in a change, and cover n bytes
 --   listed held         the list of pairs that is held
 --   no_pair             an empty pair
 --   slots_of ps         the first four pairs, with empty ones where there are fewer
 --   pair_bytes p        the pair p in four bytes
 --   pair_at bytes i     the pair in the four bytes from place i on
 --   pairs_in n bytes    the n pairs that the bytes begin with
-use Rattle.std.specs.Prelude.{ℕ, zero, suc, ◌+◌, min, Bool, true, cond, ◌&&◌, List, [], ◌∷◌, ◌++◌, length, take, drop, Some, None, Option, nat_le, slice_index_or}
+use Rattle.std.specs.Prelude.{ℕ, zero, suc, ◌+◌, min, Bool, true, cond, ◌&&◌, List, [], ◌∷◌, ◌++◌, length, take, drop, Some, None, Option, ◌==◌, nat_le, slice_index_or}
 use Rattle.block.specs.Bytes.{bytes2, at2}
 use Rattle.change.specs.declared.runs.Pair.{Pair}
 use Rattle.change.specs.declared.runs.Pairs.{Pairs}
@@ -37,6 +38,9 @@ total (p ∷ ps) = p.length + total ps
 
 abbrev pub total_in : List Pair → Option ℕ
 total_in ps = cond (well_paired ps) (Some (total ps)) None
+
+abbrev pub covering : List Pair → ℕ → Bool
+covering ps n = well_paired ps && n == total ps
 
 -- a count above 4 is read as 4
 abbrev pub listed : Pairs → List Pair

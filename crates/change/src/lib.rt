@@ -14,9 +14,11 @@ ghost use Rattle.change.specs.Changes.{ChangeOk, change_head, change_block, Writ
 use crate::runs::slot_bytes;
 use block::{is_zero, quad, word};
 
+mod edits;
 mod runs;
 
-pub use runs::{Pair, Pairs, total};
+pub use edits::{gather, overlay};
+pub use runs::{Pair, Pairs, covers, total};
 
 // A change of a page: the round it was made in, its set and its step there, and what the runs of bytes that it touches
 // hold before it and after it, joined.

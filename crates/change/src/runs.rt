@@ -1,7 +1,7 @@
 // Pairs of offset and length: the runs of bytes of a page that a change touches.
 ghost use Rattle.std.specs.Prelude.{◌≡◌, ◌<◌, ◌≤◌, length, IfSome, if◌then◌else◌, Some, None, MatchOption, slice_index_or};
 ghost use Rattle.std.specs.List.{flat_map};
-ghost use Rattle.change.specs.Pairs.{end_of, follows, in_order, total_in, listed, no_pair, slots_of, pair_bytes, pair_at, pairs_in};
+ghost use Rattle.change.specs.Pairs.{end_of, follows, in_order, total_in, covering, listed, no_pair, slots_of, pair_bytes, pair_at, pairs_in};
 ghost use Rattle.change.specs.Pairs.{total as sum_of};
 
 use block::word;
@@ -76,6 +76,16 @@ pub fn total(pairs: &[Pair]) -> Option<usize>
         return None;
     }
     sum_in_order(pairs)
+}
+
+// Whether the pairs can stand in a change and cover so many bytes.
+pub fn covers(pairs: &[Pair], bytes: usize) -> bool
+    ensures { result ≡ covering pairs.now bytes }
+{
+    match total(pairs) {
+        Some(sum) => bytes == sum,
+        None => false,
+    }
 }
 
 // The pair at a place, or an empty one past the end.

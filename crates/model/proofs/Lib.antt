@@ -3,3 +3,8 @@ pub mod Formatting
 pub mod AnyOrder
 pub mod SomeOf
 pub mod Ending
+pub mod Rooms
+pub mod OpenSets
+pub mod Passing
+pub mod Consistency
+pub mod ReadingOwn

@@ -6,3 +6,8 @@ pub mod Logs
 pub mod Recovery
 pub mod Rounds
 pub mod Laws
+pub mod Sets
+pub mod Room
+pub mod Warming
+pub mod Consistent
+pub mod WarmLaws

@@ -10,7 +10,7 @@
 --   opened_store r ks    the store that open leaves, where the caller's marks are ks
 --   turned_reply r       what turn replied
 --   turned_store r ks    the store that turn leaves, where the caller's marks are ks
---   KeepsMarks r ks js  where open refused, the caller's marks are as they were
+--   KeepsMarks r ks js   where open refused, the caller's marks are as they were
 use Rattle.std.specs.Prelude.{◌≡◌, ℕ, List, Ok, Err, Result}
 use Rattle.later.specs.declared.Mark.{Mark}
 use Rattle.drive_set.specs.Sets.{holds}

@@ -1,15 +1,15 @@
 -- Plans: lists of strokes, and what it means that a rack makes them.
 --
---   effect s m          what the stroke s makes of the rack m, before values settle early
---   fault s m           why the rack m refuses the stroke s, if it does
---   Strokes ss m n      all strokes of the list are made, in order, from the rack m to the rack n
---   Plays plan m r n    the plan is played from m on and leaves n: r is None where it came to its end, and else
---                       the fault of the first stroke that was refused
---   Placed plan m       every stroke of the plan has its place on the rack m
---   Done plan m r n     as many strokes of the plan are made as are left, exactly; r says whether that was all of it
---   run d b n v         writes of v to the n blocks of drive d from block b on, rising
---   settled_run d b n v  the same, and then a flush of the drive
---   shows ss d b o    what a read of block b of drive d gives after the strokes, where it gave o before
+--   effect s m             what the stroke s makes of the rack m, before values settle early
+--   fault s m              why the rack m refuses the stroke s, if it does
+--   Strokes ss m n         all strokes of the list are made, in order, from the rack m to the rack n
+--   Plays plan m r n       the plan is played from m on and leaves n: r is None where it came to its end, and else
+--                          the fault of the first stroke that was refused
+--   Placed plan m          every stroke of the plan has its place on the rack m
+--   Done plan m r n        as many strokes of the plan are made as are left, exactly; r says whether that was all of it
+--   run d b n v            writes of v to the n blocks of drive d from block b on, rising
+--   settled_run d b n v    the same, and then a flush of the drive
+--   shows ss d b o         what a read of block b of drive d gives after the strokes, where it gave o before
 use Rattle.std.specs.Prelude.{◌≡◌, ℕ, zero, suc, Bool, true, cond, ◌&&◌, List, [], ◌∷◌, ◌++◌, length, take, Some, None, Option, MatchOption, ◌==◌, nat_le, nat_lt}
 use Rattle.rack.specs.declared.RackFault.{RackFault}
 use Rattle.rack.specs.declared.RackFault.TheVariants.{NoStroke}
