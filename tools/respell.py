@@ -65,6 +65,7 @@ def declared():
 
 
 def spelled(name):
+    name = name.replace("getD", "get_or")
     if name in APART:
         return APART[name]
     if name[0] in "◌" or not re.search(r"[A-Za-z]", name):

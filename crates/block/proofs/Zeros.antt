@@ -10,9 +10,9 @@ pub length_zeros : (n : ℕ) → length (zeros n) ≡ n
 unfolding zeros
 length_zeros n = length-replicate n 0
 
-pub get_d_zeros : (n i : ℕ) → i < n → get_or (zeros n) i 0 ≡ 0
+pub get_or_zeros : (n i : ℕ) → i < n → get_or (zeros n) i 0 ≡ 0
 unfolding zeros
-get_d_zeros n i h = get_or-replicate n i 0 0 h
+get_or_zeros n i h = get_or-replicate n i 0 0 h
 
 pub drop_zeros : (m n : ℕ) → drop m (zeros n) ≡ zeros (n - m)
 unfolding zeros
@@ -33,10 +33,10 @@ three_zeros = refl
 
 -- bytes are zeros exactly where each of them is zero
 pub zeros_from : (xs : List ℕ) (n : ℕ) → length xs ≡ n → AllZero xs → xs ≡ zeros n
-zeros_from xs n e h = ext_get_or 0 xs (zeros n) (e ∙ sym (length_zeros n)) (λ i l. h i l ∙ sym (get_d_zeros n i (omega arith)))
+zeros_from xs n e h = ext_get_or 0 xs (zeros n) (e ∙ sym (length_zeros n)) (λ i l. h i l ∙ sym (get_or_zeros n i (omega arith)))
 
 pub zero_each : (xs : List ℕ) (n : ℕ) → xs ≡ zeros n → AllZero xs
-zero_each xs n e k h = ap (λ s. get_or s k 0) e ∙ get_d_zeros n k (omega (arith, ap length e, length_zeros n))
+zero_each xs n e k h = ap (λ s. get_or s k 0) e ∙ get_or_zeros n k (omega (arith, ap length e, length_zeros n))
 
 -- bytes copied over the first of n zeros, as `block[0..end]` has them
 pub over_zeros : (n : ℕ) (front part : List ℕ) → part ≡ front → part ++ drop (length front - 0) (zeros n) ≡ front ++ zeros (n - length front)

@@ -5,7 +5,7 @@
 --   commit_block c    the block of the commit c
 --   commit_of b       the numbers that stand in b where a commit has its numbers
 --   CommitShaped b    b has the mark of a commit, and zeros where a commit has them
-use Rattle.std.specs.Prelude.{◌≡◌, ℕ, ◌^◌, ◌<◌, ◌≤◌, List, ◌∷◌, ◌++◌, slice_index, slice_index_or}
+use Rattle.std.specs.Prelude.{◌≡◌, ℕ, ◌^◌, ◌<◌, ◌≤◌, List, ◌∷◌, ◌++◌, slice_index}
 use Rattle.std.specs.List.{between}
 use Rattle.block.specs.Bytes.{bytes4, at4, zeros, AllZero}
 use Rattle.block.specs.declared.commits.Commit.{Commit}
@@ -31,7 +31,7 @@ commit_of b = record { round = at4 b 4; set = slice_index b 8; number = slice_in
 
 -- the high bytes of set and number are zero, since these are below 256
 pub record CommitShaped (b : List ℕ) : Type 0 where
-  pub first : slice_index_or b 0 0 ≡ 2
+  pub first : slice_index b 0 ≡ 2
   pub before_round : AllZero (between 1 4 b)
   pub behind_set : AllZero (between 9 12 b)
   pub rest : AllZero (between 13 512 b)

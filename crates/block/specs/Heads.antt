@@ -5,7 +5,7 @@
 --   head_block h    the block of the head h
 --   head_of b       the numbers that stand in b where a head has its numbers
 --   HeadShaped b    b has the marks of a head, and zeros where the layout names no byte
-use Rattle.std.specs.Prelude.{◌≡◌, ℕ, ◌^◌, ◌<◌, ◌≤◌, List, ◌∷◌, ◌++◌, slice_index_or}
+use Rattle.std.specs.Prelude.{◌≡◌, ℕ, ◌^◌, ◌<◌, ◌≤◌, List, ◌∷◌, ◌++◌, slice_index}
 use Rattle.std.specs.List.{between}
 use Rattle.block.specs.Bytes.{bytes2, bytes4, at2, at4, zeros, AllZero}
 use Rattle.block.specs.declared.Head.{Head}
@@ -29,6 +29,6 @@ abbrev pub head_of : List ℕ → Head
 head_of b = record { pages = at2 b 2; round = at4 b 4; logs = at2 b 8 }
 
 pub record HeadShaped (b : List ℕ) : Type 0 where
-  pub first : slice_index_or b 0 0 ≡ 3
-  pub second : slice_index_or b 1 0 ≡ 1
+  pub first : slice_index b 0 ≡ 3
+  pub second : slice_index b 1 ≡ 1
   pub rest : AllZero (between 10 512 b)

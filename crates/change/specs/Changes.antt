@@ -13,7 +13,7 @@
 --   Marked b               b has the mark and a count of a change, and zeros where a change has them before byte 32
 --   ChangeShaped b         the same, and zeros behind the bytes from before and after
 --   view c                 the content of the change c
-use Rattle.std.specs.Prelude.{◌≡◌, ℕ, ◌+◌, ◌-◌, ◌*◌, ◌^◌, ◌<◌, ◌≤◌, true, List, ◌∷◌, ◌++◌, length, Option, MatchOption, slice_index, slice_index_or}
+use Rattle.std.specs.Prelude.{◌≡◌, ℕ, ◌+◌, ◌-◌, ◌*◌, ◌^◌, ◌<◌, ◌≤◌, true, List, ◌∷◌, ◌++◌, length, Option, MatchOption, slice_index}
 use Rattle.std.specs.List.{flat_map, between}
 use Rattle.block.specs.Bytes.{bytes2, bytes4, at2, at4, zeros, AllZero}
 use Rattle.change.specs.Pairs.{well_paired, total, listed, pair_bytes, pairs_in}
@@ -67,8 +67,8 @@ unfoldable pub content_of : List ℕ → Content
 content_of b = content_with b (pairs_of b) (total (pairs_of b))
 
 pub record Marked (b : List ℕ) : Type 0 where
-  pub first : slice_index_or b 0 0 ≡ 1
-  pub few : slice_index_or b 1 0 ≤ 4
+  pub first : slice_index b 0 ≡ 1
+  pub few : slice_index b 1 ≤ 4
   pub behind_set : AllZero (between 9 12 b)
   pub behind_pairs : AllZero (between (16 + 4 * slice_index b 1) 32 b)
 

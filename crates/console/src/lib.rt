@@ -5,8 +5,7 @@
 // too large for a call's own type is cut down to one that names nothing there.
 #![tactic(auto)]
 
-ghost use Rattle.std.specs.Prelude.{◌≡◌, ◌<◌, MatchResult};
-ghost use Rattle.rack.specs.Answers.{answer};
+ghost use Rattle.std.specs.Prelude.{◌≡◌, MatchResult};
 ghost use Rattle.script.specs.Commands.{said, command_in};
 ghost use Rattle.memory_rack.specs.Memory.{kept_in, shown, fresh};
 ghost use Rattle.console.specs.Station.{Opens, line_in, named, finished, told, block_answer, Builds, Formats, Obeys, Steps};

@@ -7,7 +7,7 @@
 // order in which logs and blocks are read does not count.
 #![tactic(auto)]
 
-ghost use Rattle.std.specs.Prelude.{◌≡◌, true, not, set, nat_le, slice_set};
+ghost use Rattle.std.specs.Prelude.{◌≡◌, true, not, nat_le, slice_set};
 ghost use Rattle.later.specs.Keeping.{kept_all};
 ghost use Rattle.later.specs.Stamps.{mark_upto};
 ghost use Rattle.model.specs.Logs.{value_at, record_in, record_of, sound, ill, given, offered, named as page_named};

@@ -4,7 +4,7 @@
 --   all_offers l ds    the marks that the logs ds offer, taken in this order, each with its place
 --   AnyOrder           the marks do not hang on the order in which logs are taken, nor on how often
 --   LargestStays       each byte ends with the mark of the largest stamp among the one that was there and those offered for it
-use Rattle.std.specs.Prelude.{◌≡◌, ℕ, ◌<◌, true, List, [], ◌∷◌, ◌++◌, length, get_or, slice_index_or}
+use Rattle.std.specs.Prelude.{◌≡◌, ℕ, ◌<◌, true, List, [], ◌∷◌, ◌++◌, length, slice_index_or}
 use Rattle.rack.specs.Meaning.{Meaning}
 use Rattle.later.specs.declared.Mark.{Mark}
 use Rattle.later.specs.Keeping.{kept_all, came_to, Among, SameMembers}
@@ -33,6 +33,6 @@ AnyOrder = (l : Logs) (ks : List Mark) (ds es : List ℕ) → SameMembers ds es 
 abbrev pub LargestStays : Type 0
 LargestStays =
     (l : Logs) (ks : List Mark) (ds : List ℕ) (i : ℕ) (none : Mark) → i < length ks →
-    let kept = get_or (kept_all mark_upto ks (all_offers l ds)) i none in
+    let kept = slice_index_or (kept_all mark_upto ks (all_offers l ds)) i none in
     let met = slice_index_or ks i none ∷ came_to i (all_offers l ds) in
     Among kept met × ((k : Mark) → Among k met → mark_upto k kept ≡ true)

@@ -19,7 +19,7 @@
 --   applied a ks d m       the marks, with those that log d offers
 --   apply_fault a k d m    why log d cannot be taken into k marks
 --   apply_of a ks d m      the outcome of apply of log d
-use Rattle.std.specs.Prelude.{ℕ, zero, suc, ◌+◌, ◌-◌, ◌*◌, Bool, true, false, cond, not, ◌&&◌, ◌||◌, leb, List, [], ◌∷◌, ◌++◌, map, length, replicate, Some, None, Option, ◌==◌, nat_le, slice_set}
+use Rattle.std.specs.Prelude.{ℕ, zero, suc, ◌+◌, ◌-◌, ◌*◌, Bool, true, false, cond, not, ◌&&◌, ◌||◌, List, [], ◌∷◌, ◌++◌, map, length, replicate, Some, None, Option, ◌==◌, nat_le, slice_set}
 use Rattle.rack.specs.declared.RackFault.TheVariants.{NoPlace}
 use Rattle.rack.specs.Meaning.{Block, Meaning}
 use Rattle.block.specs.declared.Head.{Head}
@@ -108,7 +108,7 @@ untaken z t = z.logs - tally t 16
 
 -- of two commit numbers of a set the larger stays
 abbrev pub collected : Collecting → ℕ → Meaning → List ℕ
-collected c d m = kept_all leb c.numbers (commits_from c.round m d 0 (c.shape.blocks d))
+collected c d m = kept_all nat_le c.numbers (commits_from c.round m d 0 (c.shape.blocks d))
 
 -- a log that is none or is taken; a rack of another shape
 abbrev pub collect_fault : Collecting → ℕ → Meaning → Option Refusal

@@ -8,7 +8,7 @@
 --   released s g           the page g once the set s is committed
 --   at_rest g              the page g at the start of a round
 --   record_for e ps c b    the record e of a change to the bytes b in the runs of the pairs ps, where c is committed
-use Rattle.std.specs.Prelude.{ℕ, false, cond, List, [], get_or, ◌==◌, nat_lt, slice_index_or}
+use Rattle.std.specs.Prelude.{ℕ, false, cond, List, [], ◌==◌, nat_lt, slice_index_or}
 use Rattle.change.specs.declared.runs.Pair.{Pair}
 use Rattle.change.specs.Changes.{Content}
 use Rattle.change.specs.Edits.{gathered}
@@ -28,7 +28,7 @@ abbrev pub pages_in : ℕ → List Page → ℕ → store.Page
 pages_in n t p = cond (nat_lt p n) (page_in (slice_index_or t p no_page)) (rest_page [])
 
 abbrev pub committed_in : List Page → ℕ → List ℕ
-committed_in t p = (get_or t p no_page).committed
+committed_in t p = (slice_index_or t p no_page).committed
 
 abbrev pub contents_in : ℕ → List Page → ℕ → List ℕ
 contents_in n t p = (pages_in n t p).committed

@@ -1,6 +1,6 @@
 // The shape of a rack: how many blocks each of its drives has, and where a block lies when all blocks of all
 // drives are counted through in order.
-ghost use Rattle.std.specs.Prelude.{◌≡◌, ℕ, ◌+◌, ◌*◌, ◌<◌, ◌≤◌, length, MatchOption, MatchResult, slice_index};
+ghost use Rattle.std.specs.Prelude.{◌≡◌, ℕ, ◌*◌, ◌≤◌, MatchOption, MatchResult, slice_index};
 ghost use Rattle.rack.specs.Shapes.{LegalShape, HoldsSizes, before, drives_in, size_answer, total_in, place_in};
 ghost use Rattle.rack.specs.declared.RackFault.TheVariants.{BadShape};
 

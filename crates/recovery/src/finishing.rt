@@ -1,5 +1,5 @@
 // Finish: the round ends with the pages that recovery found, and the store is warm.
-ghost use Rattle.std.specs.Prelude.{◌≡◌, ◌≤◌, false, length, if◌then◌else◌, slice_index_or};
+ghost use Rattle.std.specs.Prelude.{◌≡◌, ◌≤◌, false, if◌then◌else◌, slice_index_or};
 ghost use Rattle.drive_set.specs.Sets.{tally};
 ghost use Rattle.model.specs.Store.{applying as applying_store};
 ghost use Rattle.model.specs.Outcome.{Does};

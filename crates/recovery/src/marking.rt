@@ -1,5 +1,5 @@
 // An applying store: it takes the change records of each log once, in any order, into the caller's marks.
-ghost use Rattle.std.specs.Prelude.{◌≡◌, length};
+ghost use Rattle.std.specs.Prelude.{◌≡◌};
 ghost use Rattle.model.specs.Store.{applying as applying_store};
 ghost use Rattle.model.specs.Outcome.{Does};
 ghost use Rattle.model.specs.Recovery.{apply_fault, apply_of};

@@ -18,16 +18,16 @@ pub no_byte : (ks : List Mark) (i : ℕ) → length ks ≤ i → 0 ≡ get_or (m
 no_byte ks i h = sym (get_or_past (mark_bytes ks) i 0 (simp length-map h))
 
 -- zeros behind a list change no byte of it, since a byte past the end counts as zero
-get_d_zeros : (n i : ℕ) → get_or (zeros n) i 0 ≡ 0
+get_or_zeros : (n i : ℕ) → get_or (zeros n) i 0 ≡ 0
 unfolding zeros
-get_d_zeros zero i = refl
-get_d_zeros (suc n) zero = refl
-get_d_zeros (suc n) (suc i) = get_d_zeros n i
+get_or_zeros zero i = refl
+get_or_zeros (suc n) zero = refl
+get_or_zeros (suc n) (suc i) = get_or_zeros n i
 
-get_d_padded : (xs : List ℕ) (n i : ℕ) → get_or (xs ++ zeros n) i 0 ≡ get_or xs i 0
-get_d_padded [] n i = get_d_zeros n i
-get_d_padded (x ∷ xs) n zero = refl
-get_d_padded (x ∷ xs) n (suc i) = get_d_padded xs n i
+get_or_padded : (xs : List ℕ) (n i : ℕ) → get_or (xs ++ zeros n) i 0 ≡ get_or xs i 0
+get_or_padded [] n i = get_or_zeros n i
+get_or_padded (x ∷ xs) n zero = refl
+get_or_padded (x ∷ xs) n (suc i) = get_or_padded xs n i
 
 module _ (ks : List Mark) where
   module _ (p : ℕ) where
@@ -52,7 +52,7 @@ module _ (ks : List Mark) where
         let enough : 240 ≤ length (rest ++ zeros 240) = simp (length-append, length_zeros) (omega arith) in
         ext_get_or 0 xs (take 240 (rest ++ zeros 240)) (copied.0 ∙ sym (length-take-le 240 (rest ++ zeros 240) enough)) (λ k l.
         let below : k < 240 = omega arith in
-        copied.1 k (omega arith) ∙ sym (get_or-take 240 (rest ++ zeros 240) k 0 below ∙ (get_d_padded rest 240 k ∙ get_or-drop (p * 240) (mark_bytes ks) k 0)))
+        copied.1 k (omega arith) ∙ sym (get_or-take 240 (rest ++ zeros 240) k 0 below ∙ (get_or_padded rest 240 k ∙ get_or-drop (p * 240) (mark_bytes ks) k 0)))
 
     -- where the marks are long enough, no zeros follow
     bytes-found : p * 240 + 240 ≤ length ks → page_bytes ks p ≡ map (λ k. k.byte) (take 240 (drop (p * 240) ks))

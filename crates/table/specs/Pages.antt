@@ -6,7 +6,7 @@
 --   committed_in t p     what is committed in page p of the table t
 --   contents_in n t p    what is committed in page p of a store of n pages with the table t
 --   is_chosen s p        page p is chosen by s, a flag for each page
-use Rattle.std.specs.Prelude.{ℕ, Bool, false, cond, List, [], get_or, nat_lt, slice_index_or}
+use Rattle.std.specs.Prelude.{ℕ, Bool, false, cond, List, [], nat_lt, slice_index_or}
 use Rattle.model.specs.Store as store
 use Rattle.model.specs.Rounds.{rest_page}
 use Rattle.table.specs.declared.Page.{Page}
@@ -22,7 +22,7 @@ abbrev pub pages_in : ℕ → List Page → ℕ → store.Page
 pages_in n t p = cond (nat_lt p n) (page_in (slice_index_or t p no_page)) (rest_page [])
 
 abbrev pub committed_in : List Page → ℕ → List ℕ
-committed_in t p = (get_or t p no_page).committed
+committed_in t p = (slice_index_or t p no_page).committed
 
 abbrev pub contents_in : ℕ → List Page → ℕ → List ℕ
 contents_in n t p = (pages_in n t p).committed

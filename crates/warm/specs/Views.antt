@@ -3,7 +3,7 @@
 --   set_in s            the open set s
 --   warm_in w           the warm store w
 --   fresh_warm f ρ t    the warm store on the frame f at the start of the round ρ, with the pages of the table t
-use Rattle.std.specs.Prelude.{List, [], map, false, ℕ, get_or, take}
+use Rattle.std.specs.Prelude.{List, [], map, false, ℕ, take, slice_index}
 use Rattle.drive_set.specs.Sets.{holds}
 use Rattle.frame.specs.declared.Frame.{Frame}
 use Rattle.frame.specs.Frames.{shape_in}
@@ -21,7 +21,7 @@ warm_in w = record {
   shape = shape_in w.frame;
   round = w.round;
   page = pages_in w.frame.pages w.pages;
-  filled = λ d. get_or w.filled d 0;
+  filled = λ d. slice_index w.filled d;
   turn = w.turn;
   begun = w.begun;
   commits = w.commits;

@@ -5,7 +5,6 @@
 #![tactic(auto)]
 
 ghost use Rattle.std.specs.Prelude.{◌≡◌};
-ghost use Rattle.model.specs.Store.{Warm as WarmStore};
 ghost use Rattle.warm.specs.Views.{warm_in, fresh_warm};
 
 use drive_set::DriveSet;
