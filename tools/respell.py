@@ -3,8 +3,9 @@
 
 usage: python3 tools/respell.py [--list]      at the top of the repository, once, right after the kit's port.py
 
-Names come from the declarations in crates/*/specs and crates/*/proofs. Goals of functions, names of the library, functions of
-src/, strings, inputs and outputs keep theirs. With --list it only prints what it would rename, and which names fall together.
+Names come from the declarations in crates/*/specs and crates/*/proofs, and from the other names that imports give them.
+Goals of functions, names of the library, functions of src/, strings, inputs and outputs keep theirs. With --list it only
+prints what it would rename, and which names fall together.
 """
 import collections
 import glob
@@ -61,6 +62,11 @@ def declared():
             # a goal of a function is named by the check
             if decl and not re.search(r": (?:goal|given|loops?|goals)\.", line):
                 names.add(decl[1])
+    # another name under which a definition is imported is a name of ours too
+    for f in files("specs/**/*.antt", "proofs/**/*.antt", "src/**/*.rt"):
+        for line in open(f, encoding="utf-8"):
+            if line.startswith(("use ", "ghost use ")):
+                names |= set(re.findall(r" as ([a-z][A-Za-z0-9]*[A-Z][A-Za-z0-9]*)", line))
     return names
 
 
