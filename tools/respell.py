@@ -17,7 +17,7 @@ DECL = re.compile(r"^(?:(?:abbrev|unfoldable) )?(?:pub )?(" + TOKEN + r") :(?: |
 HEAD = re.compile(r"^(?:abbrev |unfoldable )?(?:pub )?(?:record|data) (" + TOKEN + r")")
 FIELD = re.compile(r"^  (?:pub )?(" + TOKEN + r") :(?: |$)")
 # a declaration in a module with parameters is indented
-INNER = re.compile(r"^  (?:(?:abbrev|unfoldable) )?(?:pub )?(" + TOKEN + r") :(?: |$)")
+INNER = re.compile(r"^ {2,}(?:(?:abbrev|unfoldable) )?(?:pub )?(" + TOKEN + r") :(?: |$)")
 INDEX = re.compile(r"^--   (\S.*?)\s{3,}(\S.*)$")
 WRAPPED = re.compile(r"^--\s{10,}(\S.*)$")
 

@@ -98,10 +98,10 @@ over_byte c part at n k l h = ⊎_elim before after (cases_lt k at)
     behind b = get_or-append_right (take at c) (part ++ drop (at + length part) c) at k 0 front b
 
     after : at ≤ k → get_or (over c at part) k 0 ≡ cond (leb at k && ltb k (at + n)) (get_or part (k - at) 0) (get_or c k 0)
-    after b = ⊎_elim in-part past (cases_lt k (at + n))
+    after b = ⊎_elim in_part past (cases_lt k (at + n))
       where
-        in-part : k < at + n → get_or (over c at part) k 0 ≡ cond (leb at k && ltb k (at + n)) (get_or part (k - at) 0) (get_or c k 0)
-        in-part d =
+        in_part : k < at + n → get_or (over c at part) k 0 ≡ cond (leb at k && ltb k (at + n)) (get_or part (k - at) 0) (get_or c k 0)
+        in_part d =
             let on : (leb at k && ltb k (at + n)) ≡ true = and_from (leb at k) (ltb k (at + n)) (le-leb at k b) (lt-ltb k (at + n) d) in
             rw on (behind b ∙ get_or_append_left part (drop (at + length part) c) 0 (k - at) (omega arith))
 

@@ -41,13 +41,13 @@ module _ (b : List ℕ) (ps : List Pair) (found : ps ≡ pairs_of b) where
     pub rest_from : ChangeShaped b → Rest s
     rest_from shaped = subst Rest (sym sum_is) shaped.rest
 
-    pub content-is : content_with b ps s ≡ content_of b
+    pub content_is : content_with b ps s ≡ content_of b
     unfolding content_of
-    content-is = let e = sum_is in cc
+    content_is = let e = sum_is in cc
 
-    pub content-ok : length b ≡ 512 → AllBytes b → 1 ≤ get_or b 8 0 → 1 ≤ at4 b 12 → ChangeOk (content_of b)
+    pub content_ok : length b ≡ 512 → AllBytes b → 1 ≤ get_or b 8 0 → 1 ≤ at4 b 12 → ChangeOk (content_of b)
     unfolding content_of
-    content-ok long small set step =
+    content_ok long small set step =
         let fits : total (pairs_of b) ≤ 240 = omega (arith, total_bound 0 (pairs_of b) (omega arith) (paired_parts (pairs_of b) paired).2) in
         record {
           page = at2_fits b 2 small;

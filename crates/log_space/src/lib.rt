@@ -1,8 +1,9 @@
 // The log blocks that are used in a round, and where the next record goes.
 //
 // A warm store fills each log from block 0 on, so a count per drive says which blocks are used. Records go round the
-// logs. Where the next one goes is decided in one place, `home`, which looks at the counts and the turn alone; nothing
-// else depends on the choice but that the log has a free block.
+// logs. Where the next one goes is decided in one place, `home`, which looks at the shape, the counts and the turn alone;
+// nothing else depends on the choice but that the log has a free block. No store uses this crate yet: it is for the
+// calls begin, change, read and commit.
 #![tactic(auto)]
 
 ghost use Rattle.std.specs.Prelude.{◌≡◌, ℕ, ◌-◌, ◌<◌, ◌≤◌, ◌⊎◌};

@@ -14,7 +14,7 @@ use Rattle.model.specs.Rounds.{rested}
 use Rattle.model.specs.Warming.{is_tight, spoil, with_begun, begin_fault, held_by_other, with_change, change_fault, committed_by, with_commit, without_set, is_idle}
 use Rattle.model.specs.Consistent.{Consistent}
 use Rattle.model.proofs.Passing.{passed}
-use Rattle.model.proofs.Rooms.{sum_upto, turn_range, home-room, filled-home, filled-other, free-less}
+use Rattle.model.proofs.Rooms.{sum_upto, turn_range, home_room, filled_home, filled_other, free_less}
 use Rattle.model.proofs.OpenSets.{begun_steps, begun_open, length_begun, stepped_open, length_stepped, stepped_most, stepped_own, ended_other, ended_steps, ended_open, length_ended}
 
 -- who holds a page has a step, or nobody holds it
@@ -79,10 +79,10 @@ module _ (w : Warm) (c : Consistent w) (some : 1 ≤ free w) where
     where
       by : (d ≡ home w) ⊎ (d ≡ home w → ⊥) → filled_next w d ≤ w.shape.blocks d
       by (inl e) =
-          let r = home-room w c.2 some in
-          let q = filled-home w c.2 some in
+          let r = home_room w c.2 some in
+          let q = filled_home w c.2 some in
           subst (λ (x : ℕ). filled_next w x ≤ w.shape.blocks x) (sym e) (omega arith)
-      by (inr e) = let q = filled-other w c.2 some d e in let h = c.1 d in omega arith
+      by (inr e) = let q = filled_other w c.2 some d e in let h = c.1 d in omega arith
 
 -- CHANGE
 
@@ -120,7 +120,7 @@ pub change_consistent : (w : Warm) (s p : ℕ) (ps : List Pair) (bs : List ℕ) 
 change_consistent w s p ps bs k m c y =
     let room = y.room in
     let some : 1 ≤ free w = omega arith in
-    let less = free-less w c.2 some in
+    let less = free_less w c.2 some in
     let l = length_stepped w.sets s (home w) in
     let n = c.4 in (
       c.0,
@@ -192,7 +192,7 @@ module _ (w : Warm) (s : ℕ) (c : Consistent w) where
       let n = c.4 in
       let room = c.3 in
       let some : 1 ≤ free w = omega arith in
-      let less = free-less w c.2 some in (
+      let less = free_less w c.2 some in (
         c.0,
         used_fits w c some,
         turn_range w c.2,

@@ -142,12 +142,12 @@ ended_open (o ∷ os) s t e = by (eqb o.number s) e (ended_open os s t)
     more true q j = refl
     more false q j = j q
 
-    or-on : (c : Bool) → is_open os t ≡ true → (c || is_open os t) ≡ true
-    or-on true q = refl
-    or-on false q = q
+    or_on : (c : Bool) → is_open os t ≡ true → (c || is_open os t) ≡ true
+    or_on true q = refl
+    or_on false q = q
 
     by : (b : Bool) → is_open (cond b (without os s) (o ∷ without os s)) t ≡ true → (is_open (without os s) t ≡ true → is_open os t ≡ true) → (eqb o.number t || is_open os t) ≡ true
-    by true q j = or-on (eqb o.number t) (j q)
+    by true q j = or_on (eqb o.number t) (j q)
     by false q j = more (eqb o.number t) q j
 
 length_ended_most : (os : List OpenSet) (s : ℕ) → length (without os s) ≤ length os

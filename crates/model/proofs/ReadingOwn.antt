@@ -10,7 +10,7 @@ use Rattle.model.specs.Warming.{changed, shown, shown_to}
 use Rattle.model.specs.Consistent.{Consistent}
 use Rattle.model.specs.WarmLaws.{Edit, after, Answers, own, ReadsOwnChanges, OneHolder, AlwaysRoom}
 use Rattle.model.proofs.Consistency.{Passed, change_passed, change_consistent}
-use Rattle.model.proofs.Rooms.{home_range, home-room}
+use Rattle.model.proofs.Rooms.{home_range, home_room}
 use Rattle.model.proofs.OpenSets.{some_open}
 
 -- a page that no other set holds is held by nobody or by the set itself
@@ -68,22 +68,22 @@ module _ (w : Warm) (e : Edit) (m : Meaning) (c : Consistent w) (y : Passed w e.
   reads_step : (s p : ℕ) → shown_to (after w e) s p ≡ cond (eqb e.set s && eqb e.page p) (overlaid e.pairs e.bytes (shown_to w s p)) (shown_to w s p)
   reads_step s p = by (cases_Bool (eqb e.page p))
     where
-      and-off : (b : Bool) → (b && false) ≡ false
-      and-off true = refl
-      and-off false = refl
+      and_off : (b : Bool) → (b && false) ≡ false
+      and_off true = refl
+      and_off false = refl
 
-      and-on : (b : Bool) → (b && true) ≡ b
-      and-on true = refl
-      and-on false = refl
+      and_on : (b : Bool) → (b && true) ≡ b
+      and_on true = refl
+      and_on false = refl
 
       by : (eqb e.page p ≡ true) ⊎ (eqb e.page p ≡ false) → shown_to (after w e) s p ≡ cond (eqb e.set s && eqb e.page p) (overlaid e.pairs e.bytes (shown_to w s p)) (shown_to w s p)
       by (inl t) =
           let q = eqb-true e.page p t in
           let back : eqb p e.page ≡ true = eq-eqb p e.page (sym q) in
-          rw (t, and-on (eqb e.set s), back) (subst (λ (x : ℕ). shown s (changed e.set e.pairs e.bytes (w.page x)) ≡ cond (eqb e.set s) (overlaid e.pairs e.bytes (shown s (w.page x))) (shown s (w.page x))) q (at_page s))
+          rw (t, and_on (eqb e.set s), back) (subst (λ (x : ℕ). shown s (changed e.set e.pairs e.bytes (w.page x)) ≡ cond (eqb e.set s) (overlaid e.pairs e.bytes (shown s (w.page x))) (shown s (w.page x))) q (at_page s))
       by (inr t) =
           let back : eqb p e.page ≡ false = ne_eqb p e.page (λ q. both_ways (eqb e.page p) t (eq-eqb e.page p (sym q))) in
-          rw (t, and-off (eqb e.set s), back) refl
+          rw (t, and_off (eqb e.set s), back) refl
 
 pub reads_own_changes : ReadsOwnChanges
 reads_own_changes w v [] s p c a = ap (λ (x : Warm). shown_to x s p) a
@@ -132,4 +132,4 @@ always_room w s c o =
     let room = c.3 in
     let some = some_open w.sets s o in
     let r = home_range w c.2 in
-    (room, r.0, r.1, home-room w c.2 (omega arith))
+    (room, r.0, r.1, home_room w c.2 (omega arith))

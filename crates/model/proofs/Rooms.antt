@@ -89,9 +89,9 @@ module _ (w : Warm) (turn : TurnIsLog w) where
   turn_range = next_range w.shape.logs (home w) home_range.0 home_range.1
 
   module _ (some : 1 ≤ free w) where
-    pub home-room : w.filled (home w) < w.shape.blocks (home w)
+    pub home_room : w.filled (home w) < w.shape.blocks (home w)
     unfolding home_in free_in
-    home-room =
+    home_room =
         let s = some_room (λ d. w.shape.blocks d - w.filled d) w.shape.logs some in
         let e = s.0 in
         let x : is_full w.shape w.filled e ≡ false = lt-leb (w.shape.blocks e) (w.filled e) (omega (arith, s.3)) in
@@ -101,17 +101,17 @@ module _ (w : Warm) (turn : TurnIsLog w) where
         near e a b (inl l) = let t = turn.0 in inr (l, omega arith)
         near e a b (inr l) = let t = turn.0 in inl (l, omega arith)
 
-    pub filled-home : filled_next w (home w) ≡ suc (w.filled (home w))
-    filled-home = cond-true (eqb (home w) (home w)) (suc (w.filled (home w))) (w.filled (home w)) (eq-eqb (home w) (home w) refl)
+    pub filled_home : filled_next w (home w) ≡ suc (w.filled (home w))
+    filled_home = cond-true (eqb (home w) (home w)) (suc (w.filled (home w))) (w.filled (home w)) (eq-eqb (home w) (home w) refl)
 
-    pub filled-other : (d : ℕ) → (d ≡ home w → ⊥) → filled_next w d ≡ w.filled d
-    filled-other d n = cond-false (eqb d (home w)) (suc (w.filled d)) (w.filled d) (ne_eqb d (home w) n)
+    pub filled_other : (d : ℕ) → (d ≡ home w → ⊥) → filled_next w d ≡ w.filled d
+    filled_other d n = cond-false (eqb d (home w)) (suc (w.filled d)) (w.filled d) (ne_eqb d (home w) n)
 
     -- a record takes one free block
-    pub free-less : free w ≡ suc (free_in w.shape (filled_next w))
+    pub free_less : free w ≡ suc (free_in w.shape (filled_next w))
     unfolding free_in
-    free-less =
-        let r = home-room in
-        let q = filled-home in
+    free_less =
+        let r = home_room in
+        let q = filled_home in
         one_less (λ d. w.shape.blocks d - w.filled d) (λ d. w.shape.blocks d - filled_next w d) w.shape.logs (home w) home_range.0 home_range.1
-        (omega arith) (λ d n. ap (λ (x : ℕ). w.shape.blocks d - x) (filled-other d n))
+        (omega arith) (λ d n. ap (λ (x : ℕ). w.shape.blocks d - x) (filled_other d n))

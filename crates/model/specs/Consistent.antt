@@ -1,4 +1,4 @@
--- What holds of every warm store.
+-- What is to hold of every warm store, once its calls are there; no type says it yet.
 --
 --   UsedFits w         no log has more blocks in use than blocks
 --   TurnIsLog w        the turn is a log's

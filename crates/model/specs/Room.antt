@@ -3,6 +3,7 @@
 --   sum_logs f n           the sum of f over the logs 1 to n
 --   free_in z used         the free blocks of a store of the shape z: those of all logs that are unused in this round, where
 --                          `used d` blocks of drive d are used
+--   is_full z used d       no block of the log d is free
 --   next_log n d           the log after d of n logs, going round
 --   seek full n k d        of the log d and the k - 1 after it, going round, the first that is not full
 --   home_in z used turn    the log that takes the next record: the first with a free block, from the one whose turn it is

@@ -1,4 +1,4 @@
--- Laws of a warm store, in the subject's words.
+-- Laws of a warm store, in the subject's words, above the outcomes of Warming; no call promises them yet.
 --
 --   Edit               a change that a set asks for: of a page, by pairs and their new bytes joined
 --   after w e          the store w once the change e was answered

@@ -1,23 +1,31 @@
--- Calls on a warm store: begin, change, read, commit.
+-- Outcomes of begin, change and commit on a warm store, and what a read shows. The calls themselves are still to come.
 --
 --   is_tight w                      too few blocks are free for one more record and a commit of each open set
 --   spoil w                         the store w once a stroke was refused
+--   new_set s                       the open set of number s that has made no step
+--   begin_fault w                   why begin refuses, if it does
 --   with_begun w                    the store once the next set is begun
 --   beginning w                     the outcome of begin
 --   held_by_other s g               a set other than s holds the page g
 --   changed s ps bytes g            the page g once the set s has put the joined bytes into the runs of the pairs ps
 --   change_record w s p ps bytes    the record of that change of page p
 --   record_plan w b                 the write of the block b where the next record goes
+--   page_next w s p ps bytes q      page q once that change is made
 --   with_change w s p ps bytes      the store once that change is made
+--   change_fault w s p ps k m       why a change with k new bytes refuses on the rack m, if it does
+--   edit_fault w s p ps k m         the same behind the checks of the store and the set
 --   changing w s p ps bytes m       the outcome of change
 --   shown s g                       what set s reads of the page g; 0 stands for a reader that is no set
 --   shown_to w s p                  what set s reads of page p
+--   read_fault w s p k              why a read into a buffer of k bytes refuses, if it does
 --   committed_by s g                the page g once the set s is committed
 --   flushes_of u d n                flushes of those of the n drives from d on that pass u, rising
 --   commit_record w s               the record of the commit of set s
 --   commit_plan w s                 the strokes of that commit
 --   with_commit w s                 the store once it is made
 --   without_set w s                 the store once the set s has ended that made no change
+--   is_idle w s                     the open set s made no change
+--   commit_fault w s m              why a commit refuses on the rack m, if it does
 --   committing w s m                the outcome of commit
 use Rattle.std.specs.Prelude.{ℕ, zero, suc, Bool, true, false, cond, not, ◌&&◌, ◌||◌, List, [], ◌∷◌, ◌++◌, length, None, Option, ◌==◌, nat_le, nat_lt}
 use Rattle.rack.specs.declared.RackFault.TheVariants.{NoPlace}

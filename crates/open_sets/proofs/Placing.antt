@@ -27,12 +27,12 @@ module _ (xs : List OpenSet) (i s : ℕ) (passed : is_open (take i (map set_in x
     next : get_or (map set_in xs) i no_set ≡ set_in (get_or xs i blank)
     next = get_or-map set_in xs i blank no_set l
 
-    pub placing-more : false ≡ eqb (get_or xs i blank).number s → is_open (take (i + 1) (map set_in xs)) s ≡ false
-    placing-more p =
+    pub placing_more : false ≡ eqb (get_or xs i blank).number s → is_open (take (i + 1) (map set_in xs)) s ≡ false
+    placing_more p =
         ap (λ os. is_open os s) (take_more (map set_in xs) i no_set within) ∙ open_push (take i (map set_in xs)) (get_or (map set_in xs) i no_set) s passed (ap (λ o. eqb o.number s) next ∙ sym p)
 
-    pub placing-stops : (os : List store.OpenSet) → map set_in xs ≡ os → true ≡ eqb (get_or xs i blank).number s → Placed os s (Some i)
-    placing-stops os e p = subst (λ ys. Placed ys s (Some i)) e (within, passed, ap (λ o. o.number) next ∙ eqb-true (get_or xs i blank).number s (sym p))
+    pub placing_stops : (os : List store.OpenSet) → map set_in xs ≡ os → true ≡ eqb (get_or xs i blank).number s → Placed os s (Some i)
+    placing_stops os e p = subst (λ ys. Placed ys s (Some i)) e (within, passed, ap (λ o. o.number) next ∙ eqb-true (get_or xs i blank).number s (sym p))
 
   pub placing_all : (os : List store.OpenSet) → map set_in xs ≡ os → length xs ≤ i → is_open os s ≡ false
   placing_all os e l = ap (λ ys. is_open ys s) (sym e ∙ sym (take_all i (map set_in xs) (omega (arith, length-map xs set_in)))) ∙ passed

@@ -3,7 +3,8 @@
 // There are at most 8, kept at the front of an array, with a count. A set that ends leaves no gap: those behind it move
 // up, so the front is the list of open sets at any time, and each call is promised by that list. No call asks anything
 // of its caller: a ninth set is not added, and a number that is not open names no set. The calls stand in modules of
-// their own, since a definition that names the struct cannot be cited in the file that declares it.
+// their own, since a definition that names the struct cannot be cited in the file that declares it. No store uses this
+// crate yet: it is for the calls begin, change, read and commit.
 #![tactic(auto)]
 
 ghost use Rattle.std.specs.Prelude.{◌≡◌, ◌≤◌, length};

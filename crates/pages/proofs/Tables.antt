@@ -8,17 +8,17 @@ use Rattle.pages.specs.declared.Page.{Page}
 use Rattle.pages.specs.Pages.{no_page, page_in, pages_in, contents_in, released, at_rest}
 
 -- what stands for a page that is not there stays so
-get_d_all : (f : Page → Page) → f no_page ≡ no_page → (t : List Page) (p : ℕ) → get_or (map f t) p no_page ≡ f (get_or t p no_page)
-get_d_all f e [] p = sym e
-get_d_all f e (g ∷ t) zero = refl
-get_d_all f e (g ∷ t) (suc p) = get_d_all f e t p
+get_or_all : (f : Page → Page) → f no_page ≡ no_page → (t : List Page) (p : ℕ) → get_or (map f t) p no_page ≡ f (get_or t p no_page)
+get_or_all f e [] p = sym e
+get_or_all f e (g ∷ t) zero = refl
+get_or_all f e (g ∷ t) (suc p) = get_or_all f e t p
 
 module _ (n : ℕ) (t : List Page) where
   pub pages_rest : (p : ℕ) → pages_in n (map at_rest t) p ≡ rest_page (contents_in n t p)
   pages_rest p = by (ltb p n)
     where
       by : (b : Bool) → cond b (page_in (get_or (map at_rest t) p no_page)) (rest_page []) ≡ rest_page (cond b (page_in (get_or t p no_page)) (rest_page [])).committed
-      by true = ap page_in (get_d_all at_rest refl t p)
+      by true = ap page_in (get_or_all at_rest refl t p)
       by false = refl
 
   pub pages_commit : (s p : ℕ) → pages_in n (map (released s) t) p ≡ committed_by s (pages_in n t p)
@@ -37,7 +37,7 @@ module _ (n : ℕ) (t : List Page) where
       one g false = refl
 
       by : (b : Bool) → cond b (page_in (get_or (map (released s) t) p no_page)) (rest_page []) ≡ committed_by s (cond b (page_in (get_or t p no_page)) (rest_page []))
-      by true = ap page_in (get_d_all (released s) (none (eqb 0 s)) t p) ∙ one (get_or t p no_page) (eqb (get_or t p no_page).holder s)
+      by true = ap page_in (get_or_all (released s) (none (eqb 0 s)) t p) ∙ one (get_or t p no_page) (eqb (get_or t p no_page).holder s)
       by false = nobody (eqb 0 s)
 
   -- page p becomes x

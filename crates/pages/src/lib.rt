@@ -3,6 +3,9 @@
 // A page has what is committed and what the set that holds it has made of it. A change puts its bytes into the working
 // content and records the committed bytes that they replace: were the before bytes taken from the working content, a
 // set that is not committed could not be undone. Only a commit makes a working content the committed one.
+//
+// No store uses this crate yet: it is for the calls begin, change, read and commit. Today's warm store has its pages
+// in the crate `table`.
 #![tactic(auto)]
 
 ghost use Rattle.std.specs.Prelude.{◌≡◌, ℕ, ◌<◌, map, length, if◌then◌else◌};

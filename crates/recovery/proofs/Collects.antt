@@ -23,29 +23,29 @@ module _ (c : Collecting) (ks : List Mark) (d : ℕ) (m : Meaning) where
 
   module _ (fine : None ≡ collect_fault c d m) (log : Log) (is : log ≡ log_in c d) where
     -- with nothing against the log, what stands on it decides
-    fault-is : (t : Bool) → or_else (collect_fault c d m) (when t BadRecord None) ≡ when t BadRecord None
-    fault-is t = ap (λ (o : Option Refusal). or_else o (when t BadRecord None)) (sym fine)
+    fault_is : (t : Bool) → or_else (collect_fault c d m) (when t BadRecord None) ≡ when t BadRecord None
+    fault_is t = ap (λ (o : Option Refusal). or_else o (when t BadRecord None)) (sym fine)
 
-    pub does-ill : false ≡ not (some_ill log m) → Does (collect_of c ks d m) (collecting c ks) m (refused BadRecord) (collecting c ks) m
+    pub does_ill : false ≡ not (some_ill log m) → Does (collect_of c ks d m) (collecting c ks) m (refused BadRecord) (collecting c ks) m
     unfolding collect_of
-    does-ill e =
+    does_ill e =
         let some : some_ill (log_in c d) m ≡ true = ap (λ (l : Log). some_ill l m) (sym is) ∙ not-false (some_ill log m) (sym e) in
         does_refused (collect_of c ks d m) (collecting c ks) m BadRecord
-        (fault-is (some_ill (log_in c d) m) ∙ ap (λ (t : Bool). when t BadRecord None) some)
+        (fault_is (some_ill (log_in c d) m) ∙ ap (λ (t : Bool). when t BadRecord None) some)
 
     module _ (few : c.shape.logs ≤ 8) where
-      in-mask : ltb d 16 ≡ true
-      in-mask = log_in_mask c.shape d (c.taken d) few (none_first (not (is_log c.shape d && not (c.taken d))) BadLog (when (not (fits c.shape m)) (Rack NoPlace) None) fine)
+      in_mask : ltb d 16 ≡ true
+      in_mask = log_in_mask c.shape d (c.taken d) few (none_first (not (is_log c.shape d && not (c.taken d))) BadLog (when (not (fits c.shape m)) (Rack NoPlace) None) fine)
 
-      pub does-collect : true ≡ not (some_ill log m) → (numbers : List ℕ) → numbers ≡ kept_all leb c.numbers (commits_in log m) →
+      pub does_collect : true ≡ not (some_ill log m) → (numbers : List ℕ) → numbers ≡ kept_all leb c.numbers (commits_in log m) →
           (taken : ℕ → Bool) → ((e : ℕ) → taken e ≡ ((eqb e d && ltb d 16) || c.taken e)) → (n : ℕ) → n ≡ untaken c.shape taken →
           Does (collect_of c ks d m) (collecting c ks) m (number n) (collecting (record { shape = c.shape; round = c.round; numbers = numbers; taken = taken }) ks) m
       unfolding collect_of
-      does-collect e numbers kept taken adds n left =
+      does_collect e numbers kept taken adds n left =
           let none : some_ill (log_in c d) m ≡ false = ap (λ (l : Log). some_ill l m) (sym is) ∙ not-true (some_ill log m) (sym e) in
-          let fault = fault-is (some_ill (log_in c d) m) ∙ ap (λ (t : Bool). when t BadRecord None) none in
+          let fault = fault_is (some_ill (log_in c d) m) ∙ ap (λ (t : Bool). when t BadRecord None) none in
           let same : numbers ≡ kept_all leb c.numbers (commits_in (log_in c d) m) = kept ∙ ap (λ (l : Log). kept_all leb c.numbers (commits_in l m)) is in
-          let more : taken ≡ also_taken c.taken d = λ i e. (adds e ∙ also_taken_lem c.taken d e in-mask) i in
+          let more : taken ≡ also_taken c.taken d = λ i e. (adds e ∙ also_taken_lem c.taken d e in_mask) i in
           does_still (collect_of c ks d m) (collecting c ks) m _ _ fault refl
           (ap number (left ∙ ap (untaken c.shape) more))
           (λ i. collecting (record { shape = c.shape; round = c.round; numbers = same i; taken = more i }) ks)

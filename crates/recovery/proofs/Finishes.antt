@@ -70,23 +70,23 @@ module _ (a : Applying) (ks : List Mark) (m : Meaning) where
           let first : Ended a.shape.pages a.shape.logs r n = subst (λ (k : ℕ). Ended a.shape.pages k r n) l (subst (λ (k : ℕ). Ended k logs r n) p y) in
           subst (λ (c : ℕ → List ℕ). Plays (round_end a.shape a.round (is_named a) c) m r n) contents first
 
-      pub does-end-short : (pages logs : ℕ) (f : RackFault) (n : Meaning) → pages ≡ a.shape.pages → logs ≡ a.shape.logs → Ended pages logs (Some f) n →
+      pub does_end_short : (pages logs : ℕ) (f : RackFault) (n : Meaning) → pages ≡ a.shape.pages → logs ≡ a.shape.logs → Ended pages logs (Some f) n →
           Does (finishing a ks m) (applying a ks) m (refused OutOfStrokes) cold n
       unfolding finishing
-      does-end-short pages logs f n p l y = does_short (finishing a ks m) (applying a ks) m n f (sym fine) placed (planned pages logs (Some f) n p l y)
+      does_end_short pages logs f n p l y = does_short (finishing a ks m) (applying a ks) m n f (sym fine) placed (planned pages logs (Some f) n p l y)
 
-      pub does-finish : (pages logs : ℕ) (n : Meaning) → pages ≡ a.shape.pages → logs ≡ a.shape.logs → Ended pages logs None n →
+      pub does_finish : (pages logs : ℕ) (n : Meaning) → pages ≡ a.shape.pages → logs ≡ a.shape.logs → Ended pages logs None n →
           (sets written : ℕ) → sets ≡ committed a.numbers → written ≡ tally (is_named a) pages → (w : Warm) → w ≡ rested a.shape (suc a.round) (found_page a.shape.pages ks) →
           Does (finishing a ks m) (applying a ks) m (numbers sets written) (warm w) n
       unfolding finishing
-      does-finish pages logs n p l y sets written s t w e =
+      does_finish pages logs n p l y sets written s t w e =
           let d = does_all (finishing a ks m) (applying a ks) m n (sym fine) placed (planned pages logs None n p l y) in
           subst (λ (x : Warm). Does (finishing a ks m) (applying a ks) m (numbers sets written) (warm x) n) (sym e)
           (subst (λ (x : ℕ). Does (finishing a ks m) (applying a ks) m (numbers sets x) (warm (rested a.shape (suc a.round) (found_page a.shape.pages ks))) n) (sym (t ∙ ap (tally (is_named a)) p))
           (subst (λ (x : ℕ). Does (finishing a ks m) (applying a ks) m (numbers x (tally (is_named a) a.shape.pages)) (warm (rested a.shape (suc a.round) (found_page a.shape.pages ks))) n) (sym s) d))
 
       -- the store at the start of the next round
-      pub fresh-is : record {
+      pub fresh_is : record {
         shape = a.shape;
         round = a.round + 1;
         page = pages_in a.shape.pages table;
@@ -97,7 +97,7 @@ module _ (a : Applying) (ks : List Mark) (m : Meaning) where
         sets = [];
         spoilt = false;
       } ≡ rested a.shape (suc a.round) (found_page a.shape.pages ks)
-      fresh-is = λ i. record {
+      fresh_is = λ i. record {
         shape = a.shape;
         round = add-one a.round i;
         page = λ p. found p i;

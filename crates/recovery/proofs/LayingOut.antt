@@ -38,20 +38,20 @@ module _ (pages : ℕ) (m : Meaning) where
     onto_logs : Onto plan m from_logs k₁
     onto_logs = part_made (headed (zeros 512)) plan from_logs m m k₁ (onto_none plan m) zeroed
 
-    same-wiping : (r : Option RackFault) (n : Meaning) → Plays (wiping k₁) k₁ r n → Plays planned k₁ r n
-    same-wiping r n p = subst (λ (w : List Stroke). Plays w k₁ r n) (wipes_shape pages m k₁ onto_logs.alike) p
+    same_wiping : (r : Option RackFault) (n : Meaning) → Plays (wiping k₁) k₁ r n → Plays planned k₁ r n
+    same_wiping r n p = subst (λ (w : List Stroke). Plays w k₁ r n) (wipes_shape pages m k₁ onto_logs.alike) p
 
-    pub stops-wiping : (k : Meaning) (f : RackFault) → Plays (wiping k₁) k₁ (Some f) k → Plays plan m (Some f) k
-    stops-wiping k f p = part_refused planned plan from_pages m k₁ k f onto_logs (same-wiping (Some f) k p)
+    pub stops_wiping : (k : Meaning) (f : RackFault) → Plays (wiping k₁) k₁ (Some f) k → Plays plan m (Some f) k
+    stops_wiping k f p = part_refused planned plan from_pages m k₁ k f onto_logs (same_wiping (Some f) k p)
 
     module _ (k₂ : Meaning) (wiped : Plays (wiping k₁) k₁ None k₂) where
-      onto-pages : Onto plan m from_pages k₂
-      onto-pages = part_made planned plan from_pages m k₁ k₂ onto_logs (same-wiping None k₂ wiped)
+      onto_pages : Onto plan m from_pages k₂
+      onto_pages = part_made planned plan from_pages m k₁ k₂ onto_logs (same_wiping None k₂ wiped)
 
-      pub stops-blanking : (k : Meaning) (f : RackFault) → Plays (blank_pages pages) k₂ (Some f) k → Plays plan m (Some f) k
-      stops-blanking k f p = part_refused (blank_pages pages) plan (headed new_head) m k₂ k f onto-pages p
+      pub stops_blanking : (k : Meaning) (f : RackFault) → Plays (blank_pages pages) k₂ (Some f) k → Plays plan m (Some f) k
+      stops_blanking k f p = part_refused (blank_pages pages) plan (headed new_head) m k₂ k f onto_pages p
 
-      pub ends-heading : (k₃ n : Meaning) (v : Block) (q : Result (Unit {0}) RackFault) → Plays (blank_pages pages) k₂ None k₃ → v ≡ new_head → Plays (headed v) k₃ (result_err q) n → Plays plan m (result_err q) n
-      ends-heading k₃ n v q b e p =
-          last_part (headed new_head) plan m k₃ n q (part_made (blank_pages pages) plan (headed new_head) m k₂ k₃ onto-pages b)
+      pub ends_heading : (k₃ n : Meaning) (v : Block) (q : Result (Unit {0}) RackFault) → Plays (blank_pages pages) k₂ None k₃ → v ≡ new_head → Plays (headed v) k₃ (result_err q) n → Plays plan m (result_err q) n
+      ends_heading k₃ n v q b e p =
+          last_part (headed new_head) plan m k₃ n q (part_made (blank_pages pages) plan (headed new_head) m k₂ k₃ onto_pages b)
           (subst (λ (w : Block). Plays (headed w) k₃ (result_err q) n) e p)

@@ -1,16 +1,16 @@
 -- The code's states and answers, as the model has them.
 --
---   cold_in c            the cold store c
---   scan_in s            what recovery knows while it takes logs
---   collecting_in c      the collecting store c
---   applying_in a        the applying store a
---   log_in c d           the log on drive d, as the collecting store c reads it
---   number_reply r       the reply of a call that answers a number
---   opened_reply r       what open replied
---   opened_store r ks    the store that open leaves, where the caller's marks are ks
---   turned_reply r       what turn replied
---   turned_store r ks    the store that turn leaves, where the caller's marks are ks
---   KeepsMarks r ks js   where open refused, the caller's marks are as they were
+--   cold_in c             the cold store c
+--   scan_in s             what recovery knows while it takes logs
+--   collecting_in c       the collecting store c
+--   applying_in a         the applying store a
+--   log_in c d            the log on drive d, as the collecting store c reads it
+--   number_reply r        the reply of a call that answers a number
+--   opened_reply r        what open replied
+--   opened_store r ks     the store that open leaves, where the caller's marks are ks
+--   turned_reply r        what turn replied
+--   turned_store r ks     the store that turn leaves, where the caller's marks are ks
+--   KeepsMarks r ks js    where open refused, the caller's marks are as they were
 use Rattle.std.specs.Prelude.{◌≡◌, ℕ, List, Ok, Err, Result}
 use Rattle.later.specs.declared.Mark.{Mark}
 use Rattle.drive_set.specs.Sets.{holds}

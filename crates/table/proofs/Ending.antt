@@ -48,19 +48,19 @@ module _ (h : Head) (s : List Bool) (t : List Page) (m : Meaning) where
   stops_logs k f p = part_refused logs plan from_writes m m k f onto_logs p
 
   module _ (k₁ : Meaning) (settled : Plays logs m None k₁) where
-    onto-writes : Onto plan m from_writes k₁
-    onto-writes = part_made logs plan from_writes m m k₁ onto_logs settled
+    onto_writes : Onto plan m from_writes k₁
+    onto_writes = part_made logs plan from_writes m m k₁ onto_logs settled
 
-    pub stops-writes : (k : Meaning) (f : RackFault) → Plays writes k₁ (Some f) k → Plays plan m (Some f) k
-    stops-writes k f p = part_refused writes plan (Flush 0 ∷ from_head) m k₁ k f onto-writes p
+    pub stops_writes : (k : Meaning) (f : RackFault) → Plays writes k₁ (Some f) k → Plays plan m (Some f) k
+    stops_writes k f p = part_refused writes plan (Flush 0 ∷ from_head) m k₁ k f onto_writes p
 
     module _ (k₂ : Meaning) (written : Plays writes k₁ None k₂) where
-      onto-flush : Onto plan m (Flush 0 ∷ from_head) k₂
-      onto-flush = part_made writes plan (Flush 0 ∷ from_head) m k₁ k₂ onto-writes written
+      onto_flush : Onto plan m (Flush 0 ∷ from_head) k₂
+      onto_flush = part_made writes plan (Flush 0 ∷ from_head) m k₁ k₂ onto_writes written
 
-      pub stops-flush : (k : Meaning) (f : RackFault) → ◌≡◌ {A = Result (Unit {0}) RackFault} (Err f) (answer (flush_fault k₂ 0)) → k ≡ k₂ → Plays plan m (Some f) k
-      stops-flush k f a l = stroke_refused (Flush 0) plan from_head m k₂ k f onto-flush a l
+      pub stops_flush : (k : Meaning) (f : RackFault) → ◌≡◌ {A = Result (Unit {0}) RackFault} (Err f) (answer (flush_fault k₂ 0)) → k ≡ k₂ → Plays plan m (Some f) k
+      stops_flush k f a l = stroke_refused (Flush 0) plan from_head m k₂ k f onto_flush a l
 
-      pub ends-head : (k₃ n : Meaning) (q : Result (Unit {0}) RackFault) → ◌≡◌ {A = Result (Unit {0}) RackFault} (Ok tt) (answer (flush_fault k₂ 0)) → Early (flushed k₂ 0) k₃ →
+      pub ends_head : (k₃ n : Meaning) (q : Result (Unit {0}) RackFault) → ◌≡◌ {A = Result (Unit {0}) RackFault} (Ok tt) (answer (flush_fault k₂ 0)) → Early (flushed k₂ 0) k₃ →
           Plays from_head k₃ (result_err q) n → Plays plan m (result_err q) n
-      ends-head k₃ n q a l p = last_part from_head plan m k₃ n q (stroke_made (Flush 0) plan from_head m k₂ k₃ onto-flush a l) p
+      ends_head k₃ n q a l p = last_part from_head plan m k₃ n q (stroke_made (Flush 0) plan from_head m k₂ k₃ onto_flush a l) p

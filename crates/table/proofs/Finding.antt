@@ -55,42 +55,42 @@ module _ (ks : List Mark) where
         copied.1 k (omega arith) ∙ sym (get_or-take 240 (rest ++ zeros 240) k 0 below ∙ (get_or_padded rest 240 k ∙ get_or-drop (p * 240) (mark_bytes ks) k 0)))
 
     -- where the marks are long enough, no zeros follow
-    bytes-found : p * 240 + 240 ≤ length ks → page_bytes ks p ≡ map (λ k. k.byte) (take 240 (drop (p * 240) ks))
+    bytes_found : p * 240 + 240 ≤ length ks → page_bytes ks p ≡ map (λ k. k.byte) (take 240 (drop (p * 240) ks))
     unfolding page_bytes
-    bytes-found h =
+    bytes_found h =
         let enough : 240 ≤ length rest = simp (length-drop, length-map) (omega arith) in
         take-append-le 240 rest (zeros 240) enough ∙ (ap (take 240) (drop-map (λ k. k.byte) (p * 240) ks) ∙ take-map (λ k. k.byte) 240 (drop (p * 240) ks))
 
     -- what the table has of page p, by whether the store has it
-    table-has : (n : ℕ) → p < n → rest_page (table_bytes n ks p) ≡ rest_page (page_bytes ks p)
-    table-has n h = ap (λ b. rest_page (cond b (page_bytes ks p) (zeros 240))) (lt-ltb p n h)
+    table_has : (n : ℕ) → p < n → rest_page (table_bytes n ks p) ≡ rest_page (page_bytes ks p)
+    table_has n h = ap (λ b. rest_page (cond b (page_bytes ks p) (zeros 240))) (lt-ltb p n h)
 
-    table-lacks : (n : ℕ) → n ≤ p → rest_page (table_bytes n ks p) ≡ rest_page (zeros 240)
-    table-lacks n h = ap (λ b. rest_page (cond b (page_bytes ks p) (zeros 240))) (le-ltb p n h)
+    table_lacks : (n : ℕ) → n ≤ p → rest_page (table_bytes n ks p) ≡ rest_page (zeros 240)
+    table_lacks n h = ap (λ b. rest_page (cond b (page_bytes ks p) (zeros 240))) (le-ltb p n h)
 
   -- the first n pages of the table have their bytes, and the others are zero
   abbrev pub Filled : ℕ → List Page → Type 0
   Filled n t = (p : ℕ) → p < 64 → page_in (get_or t p no_page) ≡ rest_page (table_bytes n ks p)
 
   pub filled_none : (x : Page) → page_in x ≡ rest_page (zeros 240) → Filled 0 (replicate 64 x)
-  filled_none x e p h = ap page_in (get_or-replicate 64 p x no_page h) ∙ (e ∙ sym (table-lacks p 0 (omega arith)))
+  filled_none x e p h = ap page_in (get_or-replicate 64 p x no_page h) ∙ (e ∙ sym (table_lacks p 0 (omega arith)))
 
   pub filled_more : (n : ℕ) (t : List Page) (x : Page) → n < length t → Filled n t → page_in x ≡ rest_page (page_bytes ks n) → Filled (n + 1) (set t n x)
   filled_more n t x l before e p h = ⊎_elim here elsewhere (cases_eq p n)
     where
       here : p ≡ n → page_in (get_or (set t n x) p no_page) ≡ rest_page (table_bytes (n + 1) ks p)
-      here q = rw q (ap page_in (get_or-set_same t n x no_page l) ∙ (e ∙ sym (table-has n (n + 1) (omega arith))))
+      here q = rw q (ap page_in (get_or-set_same t n x no_page l) ∙ (e ∙ sym (table_has n (n + 1) (omega arith))))
 
       elsewhere : p ≢ n → page_in (get_or (set t n x) p no_page) ≡ rest_page (table_bytes (n + 1) ks p)
       elsewhere q =
           ap page_in (get_or-set_other t n p x no_page q) ∙ (before p h ∙
-          ⊎_elim (λ a. table-has p n a ∙ sym (table-has p (n + 1) (omega arith))) (λ a. table-lacks p n a ∙ sym (table-lacks p (n + 1) (omega arith))) (cases_lt p n))
+          ⊎_elim (λ a. table_has p n a ∙ sym (table_has p (n + 1) (omega arith))) (λ a. table_lacks p n a ∙ sym (table_lacks p (n + 1) (omega arith))) (cases_lt p n))
 
   -- the table has no more than 64 pages
   pub filled_all : (n i : ℕ) (t : List Page) → i ≡ min n 64 → Filled i t → Filled n t
   filled_all n i t e filled p h =
       filled p h ∙
-      ⊎_elim (λ a. table-has p i (omega arith) ∙ sym (table-has p n a)) (λ a. table-lacks p i (omega arith) ∙ sym (table-lacks p n a)) (cases_lt p n)
+      ⊎_elim (λ a. table_has p i (omega arith) ∙ sym (table_has p n a)) (λ a. table_lacks p i (omega arith) ∙ sym (table_lacks p n a)) (cases_lt p n)
 
   pub found_from_filled : (n : ℕ) (t : List Page) → Filled n t → n ≤ 64 → length ks ≡ n * 240 → (p : ℕ) → pages_in n t p ≡ rest_page (found_page n ks p)
   found_from_filled n t filled few l p = ⊎_elim has lacks (cases_Bool (ltb p n))
@@ -98,8 +98,8 @@ module _ (ks : List Mark) where
       has : ltb p n ≡ true → pages_in n t p ≡ rest_page (found_page n ks p)
       has e =
           let h : p < n = ltb-true p n e in
-          let c : page_in (get_or t p no_page) ≡ rest_page (page_bytes ks p) = filled p (omega arith) ∙ table-has p n h in
-          simp e (c ∙ ap rest_page (bytes-found p (omega arith)))
+          let c : page_in (get_or t p no_page) ≡ rest_page (page_bytes ks p) = filled p (omega arith) ∙ table_has p n h in
+          simp e (c ∙ ap rest_page (bytes_found p (omega arith)))
 
       lacks : ltb p n ≡ false → pages_in n t p ≡ rest_page (found_page n ks p)
       lacks e = simp e

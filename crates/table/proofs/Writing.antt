@@ -85,14 +85,14 @@ module _ (s : List Bool) (t : List Page) where
     abbrev pub Writing : ℕ → Meaning → Type 0
     Writing p k = Onto (writes 0 pages) m (writes p (pages - p)) k
 
-    pub writing-none : Writing 0 m
-    writing-none = rw sub-zero (onto_none (writes 0 pages) m)
+    pub writing_none : Writing 0 m
+    writing_none = rw sub-zero (onto_none (writes 0 pages) m)
 
     pub writing_more : (p : ℕ) (k n : Meaning) → p < pages → Writing p k → Plays (writes p 1) k None n → Writing (p + 1) n
     writing_more p k n h o w = part_made (writes p 1) (writes 0 pages) (writes (p + 1) (pages - (p + 1))) m k n (rw (writes_more p pages h) at o) w
 
-    pub writing-stops : (p : ℕ) (k n : Meaning) (f : RackFault) → p < pages → Writing p k → Plays (writes p 1) k (Some f) n → Plays (writes 0 pages) m (Some f) n
-    writing-stops p k n f h o w = part_refused (writes p 1) (writes 0 pages) (writes (p + 1) (pages - (p + 1))) m k n f (rw (writes_more p pages h) at o) w
+    pub writing_stops : (p : ℕ) (k n : Meaning) (f : RackFault) → p < pages → Writing p k → Plays (writes p 1) k (Some f) n → Plays (writes 0 pages) m (Some f) n
+    writing_stops p k n f h o w = part_refused (writes p 1) (writes 0 pages) (writes (p + 1) (pages - (p + 1))) m k n f (rw (writes_more p pages h) at o) w
 
-    pub writing-all : (p : ℕ) (k : Meaning) → pages ≤ p → Writing p k → Plays (writes 0 pages) m None k
-    writing-all p k h o = onto_all (writes 0 pages) m k (rw (writes_all p pages h) at o)
+    pub writing_all : (p : ℕ) (k : Meaning) → pages ≤ p → Writing p k → Plays (writes 0 pages) m None k
+    writing_all p k h o = onto_all (writes 0 pages) m k (rw (writes_all p pages h) at o)

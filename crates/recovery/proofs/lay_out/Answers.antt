@@ -3,14 +3,14 @@ use Rattle.std.proofs.lemmas.Result.{err_from_is_err_and}
 use Rattle.strokes.specs.Plan.{run}
 use Rattle.block.specs.Bytes.{zeros}
 use Rattle.block.specs.Heads.{head_block}
-use Rattle.recovery.proofs.LayingOut.{stops_zeroing, stops-wiping, stops-blanking, ends-heading}
+use Rattle.recovery.proofs.LayingOut.{stops_zeroing, stops_wiping, stops_blanking, ends_heading}
 use Rattle.recovery.proofs.lay_out.Goals as goal
 
 pub returns : goal.returns
 unfolding zeros run
 returns g c =
     let m = g.R.Rack.meaning c.args.rack.now in
-    ends-heading c.args.pages m _ c.in_ok-put_head.ensures _ c.in_ok-wipe_logs.ensures _ _ c.block.result c.put_head-2.result
+    ends_heading c.args.pages m _ c.in_ok-put_head.ensures _ c.in_ok-wipe_logs.ensures _ _ c.block.result c.put_head-2.result
     c.in_ok-blank_pages.ensures
     (c.block.ensures ∙ ap (λ (n : ℕ). head_block (record { pages = c.args.pages; round = 1; logs = n - 1 })) c.drives-logs.ensures)
     c.put_head-2.ensures
@@ -27,11 +27,11 @@ unfolding zeros run
 returns-in_err-wipe_logs g c =
     let m = g.R.Rack.meaning c.args.rack.now in
     let p = err_from_is_err_and c.from_residual-in_err-wipe_logs.result c.from_residual-in_err-wipe_logs.ensures.1 in
-    rw (p.1, p.2) (stops-wiping c.args.pages m _ c.in_ok-put_head.ensures _ _ c.in_err-wipe_logs.ensures)
+    rw (p.1, p.2) (stops_wiping c.args.pages m _ c.in_ok-put_head.ensures _ _ c.in_err-wipe_logs.ensures)
 
 pub returns-in_err-blank_pages : goal.returns-in_err-blank_pages
 unfolding zeros run
 returns-in_err-blank_pages g c =
     let m = g.R.Rack.meaning c.args.rack.now in
     let p = err_from_is_err_and c.from_residual-in_err-blank_pages.result c.from_residual-in_err-blank_pages.ensures.1 in
-    rw (p.1, p.2) (stops-blanking c.args.pages m _ c.in_ok-put_head.ensures _ c.in_ok-wipe_logs.ensures _ _ c.in_err-blank_pages.ensures)
+    rw (p.1, p.2) (stops_blanking c.args.pages m _ c.in_ok-put_head.ensures _ c.in_ok-wipe_logs.ensures _ _ c.in_err-blank_pages.ensures)

@@ -4,7 +4,7 @@ use Rattle.block.proofs.Numbers.{AllBytes}
 use Rattle.block.proofs.Reading.{none_by_length, none_by_shape, none_by_value, some_value}
 use Rattle.change.specs.Pairs.{listed, total_in}
 use Rattle.change.proofs.ChangeLaws.{changes}
-use Rattle.change.proofs.ReadLaws.{no_sum, shaped_from, rest_from, content-is, content-ok, content_begun}
+use Rattle.change.proofs.ReadLaws.{no_sum, shaped_from, rest_from, content_is, content_ok, content_begun}
 use Rattle.change.proofs.Change.read.Goals as goal
 
 pub returns-then-block-ne512 : goal.returns-then-block-ne512
@@ -42,5 +42,5 @@ returns c =
     let sum = c.in-Some.ensures.value ∙ ap total_in c.as_slice.ensures.value in
     let e = c.of-change.ensures in
     let shaped = shaped_from b ps p s sum (c.if-not-is_marked.ensures.0 refl) (c.if-not-is_zero.ensures.0 refl) in
-    let ok = content-ok b ps p s sum c.if-block-ne512.false small (omega (arith, ap (λ z. z.set) e)) (omega (arith, ap (λ z. z.step) e)) in
-    some_value changes b _ (e ∙ content-is b ps p s sum) c.if-block-ne512.false small shaped ok
+    let ok = content_ok b ps p s sum c.if-block-ne512.false small (omega (arith, ap (λ z. z.set) e)) (omega (arith, ap (λ z. z.step) e)) in
+    some_value changes b _ (e ∙ content_is b ps p s sum) c.if-block-ne512.false small shaped ok

@@ -2,7 +2,7 @@ use Rattle.std.proofs.Common.{◌≡◌, ℕ, ◌*◌, sym, ap, ◌∙◌, subst
 use Rattle.table.specs.Pages.{pages_in}
 use Rattle.model.specs.Rounds.{rest_page, found_page}
 use Rattle.recovery.specs.Views.{applying_in}
-use Rattle.recovery.proofs.Finishes.{does_not_finish, long, does-end-short, does-finish, fresh-is}
+use Rattle.recovery.proofs.Finishes.{does_not_finish, long, does_end_short, does_finish, fresh_is}
 use Rattle.recovery.proofs.Applying.finish.Goals as goal
 
 pub returns-in-Some : goal.returns-in-Some
@@ -19,8 +19,8 @@ returns-in-Ok g c =
     let pages = c.pages-pages.ensures.value in
     let marks = long a ks m fine legal ∙ ap (λ (k : ℕ). k * 240) (sym pages) in
     let found = subst (λ (n : ℕ). (p : ℕ) → pages_in n table p ≡ rest_page (found_page n ks p)) pages (c.found_pages-table.ensures.found c.pages-pages.ensures.most marks) in
-    does-finish a ks m fine legal table found c.pages-pages.result c.logs.result _ pages c.logs.ensures.value c.in-Ok.ensures _ _
-    c.count_committed-sets.ensures c.count_named-written.ensures _ (c.rested-warm.ensures ∙ fresh-is a ks m fine legal table found)
+    does_finish a ks m fine legal table found c.pages-pages.result c.logs.result _ pages c.logs.ensures.value c.in-Ok.ensures _ _
+    c.count_committed-sets.ensures c.count_named-written.ensures _ (c.rested-warm.ensures ∙ fresh_is a ks m fine legal table found)
 
 pub returns-in-Err : goal.returns-in-Err
 returns-in-Err g c =
@@ -33,4 +33,4 @@ returns-in-Err g c =
     let pages = c.pages-pages.ensures.value in
     let marks = long a ks m fine legal ∙ ap (λ (k : ℕ). k * 240) (sym pages) in
     let found = subst (λ (n : ℕ). (p : ℕ) → pages_in n table p ≡ rest_page (found_page n ks p)) pages (c.found_pages-table.ensures.found c.pages-pages.ensures.most marks) in
-    does-end-short a ks m fine legal table found c.pages-pages.result c.logs.result _ _ pages c.logs.ensures.value c.in-Err.ensures
+    does_end_short a ks m fine legal table found c.pages-pages.result c.logs.result _ _ pages c.logs.ensures.value c.in-Err.ensures
