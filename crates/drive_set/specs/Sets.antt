@@ -4,11 +4,12 @@
 --   holds s d         the set s holds drive d
 --   tally f n         how many numbers below n pass the test f
 --   Adds s drive t    t holds what s holds, and the drive; a drive from 16 on adds nothing
-use Rattle.std.specs.Prelude.{◌≡◌, ℕ, zero, suc, ◌+◌, ◌/◌, ◌%◌, ◌^◌, Bool, cond, ◌&&◌, ◌||◌, ◌==◌, nat_lt}
+use Rattle.std.specs.Prelude.{◌≡◌, ℕ, zero, suc, ◌+◌, Bool, cond, ◌&&◌, ◌||◌, ◌==◌, nat_lt}
+use Rattle.std.specs.Int.{bit_at}
 use Rattle.drive_set.specs.declared.DriveSet.{DriveSet}
 
 abbrev pub bit : ℕ → ℕ → Bool
-bit n d = n / 2 ^ d % 2 == 1
+bit n d = bit_at n d == 1
 
 -- a mask has 16 bits, so no drive from 16 on is ever held
 abbrev pub holds : DriveSet → ℕ → Bool

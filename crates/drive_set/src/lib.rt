@@ -6,21 +6,21 @@
 // all of them.
 #![tactic(auto)]
 
-ghost use Rattle.std.specs.Prelude.{◌≡◌, ℕ, ◌<◌, false, count_ones};
+ghost use Rattle.std.specs.Prelude.{◌≡◌, ℕ, false, ◌^◌, if◌then◌else◌, nat_lt, count_ones};
 ghost use Rattle.drive_set.specs.Sets.{holds, tally, Adds};
 ghost use Rattle.drive_set.specs.Laws.{CountsAll, CountsMore};
 
-// Drive d is held where bit d is set.
-#[derive(Clone, Copy)]
+// Drive d is held where bit d is set: the bits of a mask, by a rule of this project.
+#[derive(Clone, Copy, PartialEq, Eq, Default, Debug)]
 pub struct DriveSet {
     bits: u16,
 }
 
-// How many bits are set.
-fn set_bits(bits: u16) -> u16
-    ensures { result ≡ count_ones bits }
+// The bit of a drive; a drive from 16 on has none.
+fn bit_of(drive: u16) -> u16
+    ensures { result ≡ (if nat_lt drive 16 then 2 ^ drive else 0) }
 {
-    bits.count_ones() as u16
+    1u16.checked_shl(u32::from(drive)).unwrap_or(0)
 }
 
 impl DriveSet {
@@ -32,35 +32,37 @@ impl DriveSet {
     }
 
     // Whether the drive is held.
+    #[tactic(auto, using(crate::proofs::Masks::has_bit))]
     pub fn has(self, drive: u16) -> bool
         ensures { result ≡ holds self drive }
     {
-        drive < 16 && (self.bits >> drive) % 2 == 1
-    }
-
-    // The set with a drive that has a bit.
-    fn marked(self, drive: u16) -> DriveSet
-        requires { drive < 16 }
-        ensures { Adds self drive result }
-    {
-        DriveSet {
-            bits: self.bits | 1 << drive,
-        }
+        self.bits & bit_of(drive) != 0
     }
 
     // The set with the drive besides.
+    #[tactic(auto, using(crate::proofs::Masks::adds_bit))]
     pub fn with(self, drive: u16) -> DriveSet
         ensures { Adds self drive result }
     {
-        if drive < 16 { self.marked(drive) } else { self }
+        DriveSet {
+            bits: self.bits | bit_of(drive),
+        }
+    }
+
+    // How many bits are set.
+    fn ones(self) -> u16
+        ensures { result ≡ count_ones self.bits }
+    {
+        self.bits.count_ones() as u16
     }
 
     // How many drives are held.
+    #[tactic(auto, using(crate::proofs::Counting::ones_held, crate::proofs::Counting::counts_more))]
     pub fn count(self) -> u16
         ensures counts { result ≡ tally (holds self) 16 }
         ensures all { CountsAll self result }
         ensures more { CountsMore self result }
     {
-        set_bits(self.bits)
+        self.ones()
     }
 }

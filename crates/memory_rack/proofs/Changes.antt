@@ -1,8 +1,9 @@
 -- A change of one block of the memory is a change of that block of the rack, and of no other.
-use Rattle.std.proofs.Common.{◌≡◌, ℕ, ◌+◌, ◌-◌, ◌*◌, ◌<◌, ◌≤◌, ◌⊎◌, List, [], ◌∷◌, length, Some, None, Option, refl, ◌∙◌, subst, inl, inr, arith}
+use Rattle.std.proofs.Common.{◌≡◌, ℕ, ◌+◌, ◌-◌, ◌*◌, ◌≤◌, ◌&&◌, eqb, List, [], ◌∷◌, length, Some, None, Option, refl, ◌∙◌, subst, arith}
 use Rattle.std.proofs.lemmas.List.{get_or-set_same, get_or-set_other, length-set}
-use Rattle.std.proofs.lemmas.Bool.{cases_eq, eq-eqb, ne_eqb}
-use Rattle.rack.specs.Meaning.{Block, Settles, Early, written}
+use Rattle.std.proofs.lemmas.Bool.{cond_both}
+use Rattle.std.proofs.lemmas.Bool.Decides.{nat_tests}
+use Rattle.rack.specs.Meaning.{Block, Slot, Settles, Early, written}
 use Rattle.memory_rack.specs.Memory.{Kept, block_at, slot_at, place_of, shown, over, put, cleared, ReadsOnly}
 use Rattle.memory_rack.proofs.Blocks.{length_over, block_here, block_other}
 use Rattle.memory_rack.proofs.Places.{Lies, same_place}
@@ -21,7 +22,7 @@ module _ (k j : Kept) (d b i : ℕ) (o : Option Block) (l : Lies k d b i) (t : T
   touches_reads = record {
     alike = record { count = rw (t.shape, t.marks, t.bytes) refl; size = λ e. rw t.shape refl };
     here = rw t.shape (subst (λ n. (slot_at j n).settled ≡ o) l.place t.here);
-    others = λ e c p q ne. rw t.shape (t.others (place_of k e c) (λ h. ne (same_place k.shape.sizes d b e c l.block q (h ∙ l.place))));
+    others = λ e c p q ne. rw t.shape (t.others (place_of k e c) (λ h. ne (same_place k.shape d b e c l.block q (h ∙ l.place))));
   }
 
 module _ (k : Kept) (d b i : ℕ) (l : Lies k d b i) where
@@ -45,12 +46,10 @@ module _ (k : Kept) (d b i : ℕ) (l : Lies k d b i) where
 
 -- a block that reads otherwise, one stroke later, is a write that was settled at once
 pub reads_early : (k j : Kept) (d b : ℕ) (v : Block) → ReadsOnly (shown k) (shown j) d b (Some v) → j.left ≡ k.left - 1 → Early (written (shown k) d b v) (shown j)
-reads_early k j d b v r e = record { alike = record { count = r.alike.count; size = r.alike.size }; slot = λ f c p q. go f c p q (cases_eq f d) (cases_eq c b); left = e }
-  where
-    same : (f c : ℕ) → f < (shown k).count → c < (shown k).size f → ((f ≡ d) × (c ≡ b) → ⊥) → Settles ((shown k).slot f c) ((shown j).slot f c)
-    same f c p q ne = record { gone = []; parts = refl; stands = r.others f c p q ne }
-
-    go : (f c : ℕ) → f < (shown k).count → c < (shown k).size f → ((f ≡ d) ⊎ (f ≡ d → ⊥)) → ((c ≡ b) ⊎ (c ≡ b → ⊥)) → Settles ((written (shown k) d b v).slot f c) ((shown j).slot f c)
-    go f c p q (inl x) (inl y) = rw (eq-eqb f d x, eq-eqb c b y) (record { gone = v ∷ []; parts = refl; stands = rw (x, y) r.here })
-    go f c p q (inl x) (inr y) = rw (eq-eqb f d x, ne_eqb c b y) (same f c p q (λ h. y h.1))
-    go f c p q (inr x) y = rw (ne_eqb f d x) (same f c p q (λ h. x h.0))
+reads_early k j d b v r e = record {
+  alike = record { count = r.alike.count; size = r.alike.size };
+  slot = λ f c p q. cond_both (eqb f d && eqb c b) _ _ (λ (s : Slot). Settles s ((shown j).slot f c))
+      (λ t. let x : f ≡ d = grind (arith, nat_tests) in let y : c ≡ b = grind (arith, nat_tests) in record { gone = v ∷ []; parts = refl; stands = rw (x, y) r.here })
+      (λ t. record { gone = []; parts = refl; stands = r.others f c p q (λ h. grind (arith, nat_tests)) });
+  left = e;
+}

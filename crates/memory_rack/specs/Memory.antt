@@ -1,15 +1,12 @@
 -- The memory rack: what the caller's memory means as a rack, and what each call makes of it.
 --
---   Kept                    what a memory rack keeps: its shape, the caller's bytes and marks, the strokes left
 --   kept_in r               what the rack r keeps
---   fitting k               the memory has one mark and 512 bytes for each block of the shape
 --   block_at xs i           the i-th block of the bytes xs
 --   slot_at k i             the i-th block as the rack shows it
 --   place_of k d b          where block b of drive d lies among all blocks, drive 0 first
 --   shown k                 what the rack means
 --   placed k d b            where block b of drive d lies, if the rack shows such a block
 --   memory_of k d b         the bytes that the memory has for block b of drive d, readable or not
---   fresh s xs ms n         what a new rack keeps: the shape s, the bytes xs, the marks ms and n strokes
 --   Makes k r               the answer r of a call that is to make a rack that keeps k
 --   over xs p v             the bytes xs with v over them from p on
 --   put k i p v             the i-th block with v over its bytes from p on, and readable
@@ -24,28 +21,18 @@
 --   wrote k d b v           what a write of v leaves
 --   swept k d               what a flush leaves
 --   ReadsOnly m n d b o     the rack n reads as m in every block but block b of drive d, which reads as o
-use Rattle.std.specs.Prelude.{◌≡◌, ℕ, ◌+◌, ◌-◌, ◌*◌, ◌<◌, Bool, true, false, cond, ◌&&◌, List, [], ◌++◌, length, take, drop, Some, None, Option, Result, MatchResult, ◌==◌, nat_le, slice_index, slice_set}
+use Rattle.std.specs.Prelude.{◌≡◌, ℕ, ◌+◌, ◌-◌, ◌*◌, ◌<◌, true, false, cond, ◌&&◌, List, [], ◌++◌, length, take, drop, Some, None, Option, Result, MatchResult, ◌==◌, nat_le, slice_index, slice_set}
 use Rattle.rack.specs.declared.RackFault.{RackFault}
 use Rattle.rack.specs.declared.RackFault.TheVariants.{NoPlace, BadShape}
-use Rattle.rack.specs.declared.shape.Shape.{Shape}
 use Rattle.rack.specs.Meaning.{Block, Slot, Meaning, Alike, newest}
 use Rattle.rack.specs.Answers.{within, write_fault, flush_fault}
-use Rattle.rack.specs.Shapes.{drives_in, size_in, before, total_in}
+use Rattle.rack.specs.Shapes.{drives_in, size_in, before}
 use Rattle.memory_rack.specs.declared.MemoryRack.{MemoryRack}
+pub use Rattle.memory_rack.specs.Kept.{Kept, fresh, fitting}
 
--- all blocks of all drives in order, drive 0 first: 512 bytes and one mark for each
-pub record Kept : Type 0 where
-  pub shape : Shape
-  pub bytes : List ℕ
-  pub marks : List ℕ
-  pub left : ℕ
-
--- what the references point to
+-- in contracts a memory rack is what it keeps; this name for it serves where the rack is a part of something
 abbrev pub kept_in : MemoryRack → Kept
-kept_in r = record { shape = r.shape; bytes = r.bytes.now; marks = r.marks.now; left = r.left }
-
-abbrev pub fitting : Kept → Bool
-fitting k = length k.marks == total_in k.shape && length k.bytes == 512 * total_in k.shape
+kept_in r = r
 
 abbrev pub block_at : List ℕ → ℕ → Block
 block_at xs i = take 512 (drop (512 * i) xs)
@@ -55,7 +42,7 @@ abbrev pub slot_at : Kept → ℕ → Slot
 slot_at k i = record { settled = cond (slice_index k.marks i == 0) None (Some (block_at k.bytes i)); pending = [] }
 
 abbrev pub place_of : Kept → ℕ → ℕ → ℕ
-place_of k d b = before k.shape.sizes d + b
+place_of k d b = before k.shape d + b
 
 -- where the memory does not fit the shape, the rack shows no drives
 abbrev pub shown : Kept → Meaning
@@ -72,12 +59,9 @@ placed k d b = cond (within (shown k) d b) (Some (place_of k d b)) None
 abbrev pub memory_of : Kept → ℕ → ℕ → Block
 memory_of k d b = block_at k.bytes (place_of k d b)
 
-abbrev pub fresh : Shape → List ℕ → List ℕ → ℕ → Kept
-fresh s xs ms n = record { shape = s; bytes = xs; marks = ms; left = n }
-
 -- a rack just where the memory fits the shape, and it keeps what it was given; else the fault BadShape
 abbrev pub Makes : Kept → Result MemoryRack RackFault → Type 0
-Makes k r = MatchResult r (λ m. (fitting k ≡ true) × (kept_in m ≡ k)) (λ f. (fitting k ≡ false) × (f ≡ BadShape))
+Makes k r = MatchResult r (λ m. (fitting k ≡ true) × (m ≡ k)) (λ f. (fitting k ≡ false) × (f ≡ BadShape))
 
 -- the bytes before p, then v, then what lies behind
 abbrev pub over : List ℕ → ℕ → List ℕ → List ℕ
@@ -85,18 +69,18 @@ over xs p v = take p xs ++ (v ++ drop (p + length v) xs)
 
 -- the mark of a block that is made readable is 1
 abbrev pub put : Kept → ℕ → ℕ → List ℕ → Kept
-put k i p v = record { shape = k.shape; bytes = over k.bytes (512 * i + p) v; marks = slice_set k.marks i 1; left = k.left }
+put k i p v = record k { bytes = over k.bytes (512 * i + p) v; marks = slice_set k.marks i 1 }
 
 -- only the mark is cleared: the bytes stay in the memory
 abbrev pub cleared : Kept → ℕ → Kept
-cleared k i = record { shape = k.shape; bytes = k.bytes; marks = slice_set k.marks i 0; left = k.left }
+cleared k i = record k { marks = slice_set k.marks i 0 }
 
 abbrev pub struck : Kept → Kept
-struck k = record { shape = k.shape; bytes = k.bytes; marks = k.marks; left = k.left - 1 }
+struck k = record k { left = k.left - 1 }
 
 -- every value is settled, so every value stands
 abbrev pub stopped : Kept → ℕ → Kept
-stopped k n = record { shape = k.shape; bytes = k.bytes; marks = k.marks; left = n }
+stopped k n = record k { left = n }
 
 -- a call that is turned down changes nothing
 abbrev pub unless : Option RackFault → Kept → Kept → Kept

@@ -3,7 +3,7 @@
 --   read_fault m d b n     why a read of block b of drive d into n bytes is turned down, if it is
 --   write_fault m d b n    the same of a write of n bytes
 --   flush_fault m d        the same of a flush
---   answer f               the answer of a call that has this fault, or none
+--   answer f               the answer of a call that has this fault, of any kind, or none
 --   blocks_answer m d      the answer to the question for a drive's blocks
 --   fetched r o old        what a read with the answer r leaves in a buffer that held old, where the block holds o
 --   Leaves r w m n         a stroke with the answer r leaves the rack n: up to early settling w if it was made, else m
@@ -34,7 +34,8 @@ flush_fault m d = cond (nat_lt d m.count) (stroke_fault m) (Some NoPlace)
 abbrev pub read_fault : Meaning → ℕ → ℕ → ℕ → Option RackFault
 read_fault m d b n = cond (n == 512) (cond (within m d b) (unreadable_fault (newest (m.slot d b))) (Some NoPlace)) (Some BadLength)
 
-abbrev pub answer : Option RackFault → Result (Unit {0}) RackFault
+-- faults of any kind: a layer above has refusals of its own
+abbrev pub answer : {F : Type 0} → Option F → Result (Unit {0}) F
 answer None = Ok tt
 answer (Some f) = Err f
 

@@ -14,21 +14,21 @@ ghost use Rattle.rack.specs.Answers.{write_fault, read_fault, flush_fault, answe
 
 pub mod shape;
 
-// Why a rack or a layer turns a call down.
+// Why a rack or a layer turns a call down; each has its number in the table of refusals.
 #[derive(Clone, Copy, PartialEq, Eq, Debug)]
 pub enum RackFault {
     // a write or a flush with no stroke left
-    NoStroke,
+    NoStroke = 31,
     // no such drive or block
-    NoPlace,
+    NoPlace = 32,
     // a read of an unreadable block
-    Unreadable,
+    Unreadable = 33,
     // a buffer that is not 512 bytes long
-    BadLength,
+    BadLength = 34,
     // a drive with fewer blocks than are to be hidden
-    TooSmall,
+    TooSmall = 35,
     // a shape that is too large, or memory that does not fit it
-    BadShape,
+    BadShape = 36,
 }
 
 impl RackFault {
@@ -36,17 +36,12 @@ impl RackFault {
     pub fn number(self) -> u8
         ensures { result ≡ fault_number self }
     {
-        match self {
-            RackFault::NoStroke => 31,
-            RackFault::NoPlace => 32,
-            RackFault::Unreadable => 33,
-            RackFault::BadLength => 34,
-            RackFault::TooSmall => 35,
-            RackFault::BadShape => 36,
-        }
+        self as u8
     }
 }
 
+// A rack is asked by the number of a drive and of a block, as two plain numbers: a struct round them would have to be
+// made at each call and be taken apart in each clause.
 pub trait Rack {
     ghost meaning: { Self → Meaning };
 

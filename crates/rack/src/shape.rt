@@ -1,98 +1,108 @@
 // The shape of a rack: how many blocks each of its drives has, and where a block lies when all blocks of all
 // drives are counted through in order.
-ghost use Rattle.std.specs.Prelude.{◌≡◌, ℕ, ◌*◌, ◌≤◌, MatchOption, MatchResult, slice_index};
-ghost use Rattle.rack.specs.Shapes.{LegalShape, HoldsSizes, before, drives_in, size_answer, total_in, place_in};
+ghost use Rattle.std.specs.Prelude.{◌≡◌, ◌*◌, ◌≤◌, length, sum, MatchResult};
 ghost use Rattle.rack.specs.declared.RackFault.TheVariants.{BadShape};
 
 use crate::RackFault;
+use std::marker::Model;
 
 // The most drives that a rack has.
 const MOST_DRIVES: usize = 10;
 
-// At most 10 drives, of at most 65,535 blocks each; the sizes of drives that are not there are 0.
-// A struct that a rack holds can have no ghost field, so a count above 10 is read as 10 and not ruled out.
-#[derive(Clone, Copy)]
+// At most 10 drives, of at most 65,535 blocks each. In contracts a shape is the list of its drives' sizes, drive 0 first.
+// The sizes are an array with their count beside it, since there is no heap and a shape is `Copy` to callers. A model and
+// no ghost field says what the two keep to: a struct that lies beside a `&mut`, as a rack's shape does, can have no ghost field.
+#[derive(Clone, Copy, Debug)]
 pub struct Shape {
-    sizes: [u16; 10],
+    sizes: [u16; MOST_DRIVES],
     count: u16,
 }
 
-// The sizes as a shape holds them, or nothing where there are too many or one is too large.
-fn narrowed(sizes: &[u32]) -> Option<[u16; 10]>
-    ensures { MatchOption result (LegalShape sizes.now → ⊥) (λ a. LegalShape sizes.now × ((k : ℕ) → slice_index a k ≡ slice_index sizes.now k)) }
-{
-    if sizes.len() > MOST_DRIVES {
-        return None;
-    }
-    let mut narrow = [0u16; 10];
-    for i in 0..sizes.len() {
-        if sizes[i] > 65535 {
-            return None;
-        }
-        narrow[i] = sizes[i] as u16;
-    }
-    Some(narrow)
+impl Model for Shape {
+    ghost use Rattle.std.specs.Prelude.{List, ℕ, length, take};
+    ghost use Rattle.std.proofs.Common.{sym, ap₂};
+    ghost use Rattle.rack.specs.Sizes.{Padded, padded};
+
+    ghost Value = { List ℕ };
+
+    ghost view = { λ s. take s.count s.sizes };
+
+    ghost invariant = { λ s. Padded s.sizes s.count };
+
+    ghost inverse = { λ sizes. record { sizes = padded sizes; count = length sizes } };
+
+    ghost inverse_ok = { λ s h. ap₂ (λ sizes count. record { sizes = sizes; count = count }) (sym h.fill) h.full };
 }
 
-// How many blocks the drives before this one have.
-fn blocks_before(sizes: &[u16; 10], drive: u16) -> usize
-    requires { drive ≤ 10 }
-    ensures { (result ≡ before sizes.now drive) × (result ≤ 65535 * drive) }
+// How many blocks drives of these sizes have.
+fn blocks_in(sizes: &[u16]) -> usize
+    requires { length sizes.now ≤ 10 }
+    ensures blocks { result ≡ sum sizes.now }
+    ensures bound { result ≤ 65535 * length sizes.now }
 {
-    let mut n: usize = 0;
-    for d in 0..drive {
-        n += sizes[d as usize] as usize;
-    }
-    n
+    sizes.iter().map(|n| usize::from(*n)).sum()
 }
 
 impl Shape {
+    ghost use Rattle.rack.specs.Shapes.{LegalShape, HoldsSizes, drives_in, size_answer, total_in, place_in};
+
     // A shape of these sizes, drive 0 first; refused where there are more than 10 or one is over 65,535.
+    #[tactic(auto, using(crate::proofs::Padding::padded_more, crate::proofs::Padding::padded_front, crate::proofs::Padding::padded_is))]
     pub fn new(sizes: &[u32]) -> Result<Shape, RackFault>
         ensures { MatchResult result (λ s. LegalShape sizes.now × HoldsSizes sizes.now s) (λ f. (LegalShape sizes.now → ⊥) × (f ≡ BadShape)) }
     {
-        let Some(narrow) = narrowed(sizes) else {
+        if sizes.len() > MOST_DRIVES {
             return Err(RackFault::BadShape);
-        };
+        }
+        // no `array::try_from_fn`: its contract does not say that each call finds the sizes as they were
+        let mut narrow = [0; MOST_DRIVES];
+        for (drive, size) in sizes.iter().enumerate() {
+            narrow[drive] = u16::try_from(*size).map_err(|_| RackFault::BadShape)?;
+        }
         Ok(Shape {
             sizes: narrow,
             count: sizes.len() as u16,
         })
     }
 
+    // The blocks of each drive, drive 0 first.
+    fn sizes(&self) -> &[u16]
+        ensures sizes { result.now ≡ self.now }
+        ensures few { length result.now ≤ 10 }
+    {
+        &self.sizes[..usize::from(self.count)]
+    }
+
     // How many drives there are.
     pub fn drives(&self) -> u16
         ensures { result ≡ drives_in self.now }
     {
-        self.count.min(10)
+        self.count
     }
 
     // How many blocks a drive has.
     pub fn blocks(&self, drive: u16) -> Result<u16, RackFault>
         ensures { result ≡ size_answer self.now drive }
     {
-        if drive < self.drives() {
-            Ok(self.sizes[drive as usize])
-        } else {
-            Err(RackFault::NoPlace)
-        }
+        self.sizes()
+            .get(usize::from(drive))
+            .copied()
+            .ok_or(RackFault::NoPlace)
     }
 
     // How many blocks the rack has in all.
     pub fn total(&self) -> usize
-        ensures { (result ≡ total_in self.now) × (result ≤ 655350) }
+        ensures all { result ≡ total_in self.now }
+        ensures small { result ≤ 655350 }
     {
-        blocks_before(&self.sizes, self.drives())
+        blocks_in(self.sizes())
     }
 
     // Where a block lies among all blocks, if there is such a block.
     pub fn place(&self, drive: u16, block: u16) -> Option<usize>
         ensures { result ≡ place_in self.now drive block }
     {
-        if drive < self.drives() && block < self.sizes[drive as usize] {
-            Some(blocks_before(&self.sizes, drive) + block as usize)
-        } else {
-            None
-        }
+        let size = self.blocks(drive).ok()?;
+        (block < size).then(|| blocks_in(&self.sizes[..usize::from(drive)]) + usize::from(block))
     }
 }

@@ -1,7 +1,6 @@
 -- A plan whose strokes have their places is made up to as many strokes as are left, and is refused for no other reason.
 use Rattle.std.proofs.Common.{◌≡◌, ℕ, zero, suc, ◌-◌, true, cond, eqb, leb, List, [], ◌∷◌, ◌++◌, length, take, Some, None, Option, refl, ◌∙◌, arith}
 use lib.Dec.{leb-zero, leb-suc-zero, leb-suc-suc}
-use Rattle.std.proofs.lemmas.Option.{MatchOption-at_some, MatchOption-at_none}
 use Rattle.std.proofs.lemmas.Bool.{and_parts, eq-eqb, ne_eqb}
 use Rattle.rack.specs.declared.RackFault.{RackFault}
 use Rattle.rack.specs.declared.RackFault.TheVariants.{NoStroke}
@@ -15,12 +14,6 @@ use Rattle.strokes.proofs.Playing.{alike_stroke}
 pub fault_placed : (s : Stroke) (m : Meaning) → placed s m ≡ true → fault s m ≡ stroke_fault m
 fault_placed (Write d b v) m p = let q = and_parts (eqb (length v) 512) (within m d b) p in rw (q.0, q.1)
 fault_placed (Flush d) m p = rw p
-
-fault_none : (s : Stroke) (m : Meaning) → placed s m ≡ true → m.left ≡ 0 → fault s m ≡ Some NoStroke
-fault_none s m p e = fault_placed s m p ∙ rw (eq-eqb m.left 0 e)
-
-fault_some : (s : Stroke) (m : Meaning) (l : ℕ) → placed s m ≡ true → m.left ≡ suc l → fault s m ≡ None
-fault_some s m l p e = fault_placed s m p ∙ rw (ne_eqb m.left 0 (λ z. omega arith))
 
 pub one_less : (s : Stroke) (m k : Meaning) → Early (effect s m) k → k.left ≡ m.left - 1
 one_less (Write d b v) m k e = e.left
@@ -45,12 +38,12 @@ takes : (plan : List Stroke) (l : ℕ) (m : Meaning) (r : Option RackFault) (n :
     (r ≡ cond (leb (length plan) l) None (Some NoStroke)) × Strokes (take l plan) m n
 unfolding Plays Strokes Placed
 takes [] zero m r n e p y = y
-takes [] (suc l) m r n e p y = (y.0 ∙ rw (leb-zero (suc l)), y.1)
+takes [] (suc l) m r n e p y = (rw leb-zero y.0, y.1)
 takes (s ∷ ss) zero m r n e p y =
-    let z = MatchOption-at_some ((k : Meaning) × Early (effect s m) k × Plays ss k r n) (λ f. (r ≡ Some f) × (n ≡ m)) NoStroke (fault_none s m p.0 e) y in
+    let z = rw (fault_placed s m p.0, eq-eqb m.left 0 e) at y in
     (rw (leb-suc-zero (length ss)) z.0, z.1)
 takes (s ∷ ss) (suc l) m r n e p y =
-    let z = MatchOption-at_none ((k : Meaning) × Early (effect s m) k × Plays ss k r n) (λ f. (r ≡ Some f) × (n ≡ m)) (fault_some s m l p.0 e) y in
+    let z = rw (fault_placed s m p.0, ne_eqb m.left 0 (λ z. omega arith)) at y in
     let k = z.0 in
     let w = takes ss l k r n (one_less s m k z.1 ∙ omega arith) (all_placed_alike ss m k (alike_stroke s m k z.1) p.1) z.2 in
     (rw (leb-suc-suc (length ss) l) w.0, (k, z.1, w.1))

@@ -1,11 +1,13 @@
 -- What stands in a block after a plan: a flush settles what was written, and what stands stays until the block is written again.
-use Rattle.std.proofs.Common.{◌≡◌, ℕ, zero, suc, ◌+◌, ◌<◌, ◌≤◌, Bool, true, false, cond, ◌&&◌, eqb, ◌⊎◌, List, [], ◌∷◌, ◌++◌, Some, Option, sym, refl, ap, ◌∙◌, subst, inl, inr, arith}
-use Rattle.std.proofs.lemmas.Bool.{eq-eqb, ne_eqb, cases_eq}
-use Rattle.rack.specs.Meaning.{Block, Slot, Meaning, Alike, Early, Settles, Stands, newest, last_or, more, calm, flushed}
+use Rattle.std.proofs.Common.{◌≡◌, ℕ, zero, suc, ◌+◌, ◌<◌, ◌≤◌, Bool, true, false, cond, ◌&&◌, eqb, List, [], ◌∷◌, ◌++◌, Some, Option, sym, refl, ap, ◌∙◌, ⊎_elim, arith}
+use Rattle.std.proofs.lemmas.Bool.{eq-eqb, cases_eq}
+use Rattle.std.proofs.lemmas.Bool.Decides.{nat_tests}
+use Rattle.rack.specs.Meaning.{Block, Slot, Meaning, Alike, Early, Settles, Stands, newest, last_or, calm, flushed}
 use Rattle.strokes.specs.declared.Stroke.{Stroke}
 use Rattle.strokes.specs.declared.Stroke.TheVariants.{Write, Flush}
 use Rattle.strokes.specs.Plan.{Strokes, shows, run}
-use Rattle.strokes.proofs.Playing.{alike_refl, alike_trans, alike_stroke}
+use Rattle.rack.proofs.Settling.{alike_refl, alike_trans}
+use Rattle.strokes.proofs.Playing.{alike_stroke}
 
 -- the plan in two parts
 pub strokes_split : (xs ys : List Stroke) (m n : Meaning) → Strokes (xs ++ ys) m n → (k : Meaning) × Strokes xs m k × Strokes ys k n
@@ -15,7 +17,7 @@ strokes_split (x ∷ xs) ys m n y = let w = strokes_split xs ys y.0 n y.2 in (w.
 
 pub alike_strokes : (xs : List Stroke) (m n : Meaning) → Strokes xs m n → Alike m n
 unfolding Strokes
-alike_strokes [] m n y = subst (λ (k : Meaning). Alike m k) (sym y) (alike_refl m)
+alike_strokes [] m n y = rw y (alike_refl m)
 alike_strokes (x ∷ xs) m n y = alike_trans m y.0 n (alike_stroke x m y.0 y.1) (alike_strokes xs y.0 n y.2)
 
 -- no stroke of the list writes this block
@@ -31,23 +33,18 @@ elsewhere_append (Write e k v ∷ xs) ys d b p q = (p.0, elsewhere_append xs ys 
 elsewhere_append (Flush e ∷ xs) ys d b p q = elsewhere_append xs ys d b p q
 
 other_test : (d b e k : ℕ) → (e ≡ d → k ≡ b → ⊥) → (eqb d e && eqb b k) ≡ false
-other_test d b e k p = go (cases_eq d e) (cases_eq b k)
-  where
-    go : ((d ≡ e) ⊎ (d ≡ e → ⊥)) → ((b ≡ k) ⊎ (b ≡ k → ⊥)) → (eqb d e && eqb b k) ≡ false
-    go (inr x) y = rw (ne_eqb d e x)
-    go (inl x) (inr y) = rw (eq-eqb d e x, ne_eqb b k y)
-    go (inl x) (inl y) = absurd (p (sym x) (sym y))
+other_test d b e k p = grind (arith, nat_tests)
 
 -- a list that is joined to nothing is nothing
 parts_none : (xs ys : List Block) → xs ++ ys ≡ [] → (xs ≡ []) × (ys ≡ [])
 parts_none [] ys e = (refl, e)
-parts_none (x ∷ xs) ys e = let z : ◌≡◌ {A = ℕ} 0 1 = cc in absurd (omega arith)
+parts_none (x ∷ xs) ys e = absurd cc
 
 -- nothing is left to settle early in a block that stands
 stays : (s t : Slot) (v : Block) → Settles s t → s.settled ≡ Some v → s.pending ≡ [] → (t.settled ≡ Some v) × (t.pending ≡ [])
 stays s t v e p q =
     let w = parts_none e.gone t.pending (sym e.parts ∙ q) in
-    (e.stands ∙ ap (last_or s.settled) w.0 ∙ p, w.1)
+    (rw (e.stands, w.0) p, w.1)
 
 -- a flush settles what is read
 pub flush_stands : (m k : Meaning) (d b : ℕ) (v : Block) → d < m.count → b < m.size d → Early (flushed m d) k → newest (m.slot d b) ≡ Some v → Stands k d b v
@@ -56,10 +53,6 @@ flush_stands m k d b v h g e p =
     let w = stays (calm (m.slot d b)) (k.slot d b) v calmed p refl in
     record { settled = w.0; nothing_pending = w.1 }
 
-missed : (t : Bool) (s u : Slot) → t ≡ false → cond t u s ≡ s
-missed true s u e = let z : ◌≡◌ {A = ℕ} 0 1 = cc in absurd (omega arith)
-missed false s u e = refl
-
 calm_stands : (t : Bool) (s : Slot) (v : Block) → s.settled ≡ Some v → s.pending ≡ [] → ((cond t (calm s) s).settled ≡ Some v) × ((cond t (calm s) s).pending ≡ [])
 calm_stands true s v p q = (ap (last_or s.settled) q ∙ p, refl)
 calm_stands false s v p q = (p, q)
@@ -67,12 +60,11 @@ calm_stands false s v p q = (p, q)
 -- what stands stays where the plan writes elsewhere
 pub strokes_stand : (ss : List Stroke) (m n : Meaning) (d b : ℕ) (v : Block) → d < m.count → b < m.size d → Elsewhere ss d b → Strokes ss m n → Stands m d b v → Stands n d b v
 unfolding Strokes Elsewhere
-strokes_stand [] m n d b v h g p y s = subst (λ (k : Meaning). Stands k d b v) (sym y) s
+strokes_stand [] m n d b v h g p y s = rw y s
 strokes_stand (Write e j w ∷ ss) m n d b v h g p y s =
     let k = y.0 in
     let a = alike_stroke (Write e j w) m k y.1 in
-    let f = missed (eqb d e && eqb b j) (m.slot d b) (more (m.slot d b) (w ∷ [])) (other_test d b e j p.0) in
-    let t = stays (m.slot d b) (k.slot d b) v (subst (λ (x : Slot). Settles x (k.slot d b)) f (y.1.slot d b h g)) s.settled s.nothing_pending in
+    let t = stays (m.slot d b) (k.slot d b) v (rw (other_test d b e j p.0) at (y.1.slot d b h g)) s.settled s.nothing_pending in
     strokes_stand ss k n d b v (rw a.count h) (rw (a.size d) g) p.1 y.2 (record { settled = t.0; nothing_pending = t.1 })
 strokes_stand (Flush e ∷ ss) m n d b v h g p y s =
     let k = y.0 in
@@ -84,7 +76,7 @@ strokes_stand (Flush e ∷ ss) m n d b v h g p y s =
 pub shows_elsewhere : (ss : List Stroke) (d b : ℕ) (o : Option Block) → Elsewhere ss d b → shows ss d b o ≡ o
 unfolding shows Elsewhere
 shows_elsewhere [] d b o p = refl
-shows_elsewhere (Write e k v ∷ ss) d b o p = ap (λ (t : Bool). shows ss d b (cond t (Some v) o)) (other_test d b e k p.0) ∙ shows_elsewhere ss d b o p.1
+shows_elsewhere (Write e k v ∷ ss) d b o p = rw (other_test d b e k p.0) (shows_elsewhere ss d b o p.1)
 shows_elsewhere (Flush e ∷ ss) d b o p = shows_elsewhere ss d b o p
 
 -- a run writes each of its blocks, and no other
@@ -101,9 +93,7 @@ run_above e b₀ (suc n) v d b h = ((λ x y. omega arith), run_above e (suc b₀
 pub shows_run : (d b₀ n : ℕ) (v : Block) (b : ℕ) (o : Option Block) → b₀ ≤ b → b < b₀ + n → shows (run d b₀ n v) d b o ≡ Some v
 unfolding run shows
 shows_run d b₀ zero v b o h g = absurd (omega arith)
-shows_run d b₀ (suc n) v b o h g = go (cases_eq b b₀) (λ o₁ h₁. shows_run d (suc b₀) n v b o₁ h₁ (omega arith))
-  where
-    go : ((b ≡ b₀) ⊎ (b ≡ b₀ → ⊥)) → ((o₁ : Option Block) → suc b₀ ≤ b → shows (run d (suc b₀) n v) d b o₁ ≡ Some v) →
-        shows (run d (suc b₀) n v) d b (cond (eqb d d && eqb b b₀) (Some v) o) ≡ Some v
-    go (inl e) more_of = rw (eq-eqb d d refl, eq-eqb b b₀ e) (shows_elsewhere (run d (suc b₀) n v) d b (Some v) (run_above d (suc b₀) n v d b (omega arith)))
-    go (inr ne) more_of = more_of (cond (eqb d d && eqb b b₀) (Some v) o) (omega arith)
+shows_run d b₀ (suc n) v b o h g = ⊎_elim
+    (λ (e : b ≡ b₀). let t : (eqb d d && eqb b b₀) ≡ true = grind (arith, nat_tests) in rw (t, shows) (shows_elsewhere (run d (suc b₀) n v) d b (Some v) (run_above d (suc b₀) n v d b (omega arith))))
+    (λ (e : b ≡ b₀ → ⊥). shows_run d (suc b₀) n v b _ (omega arith) (omega arith))
+    (cases_eq b b₀)

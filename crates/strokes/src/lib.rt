@@ -15,9 +15,10 @@ ghost use Rattle.strokes.specs.declared.Stroke.TheVariants.{Write};
 ghost use Rattle.strokes.specs.Laws.{PlansCompose, PlansShow};
 
 use rack::{Rack, RackFault};
+use std::ops::Range;
 
 // One write or one flush.
-#[derive(Clone, Copy)]
+#[derive(Clone, Copy, PartialEq, Eq, Debug)]
 pub enum Stroke {
     Write {
         drive: u16,
@@ -70,17 +71,16 @@ pub fn play_all<R: Rack>(rack: &mut R, plan: &[Stroke]) -> Result<(), RackFault>
     Ok(())
 }
 
-// Writes the same bytes to each block of a drive from `first` to just below `end`, rising.
+// Writes the same bytes to each of these blocks of a drive, rising.
 fn write_run<R: Rack>(
     rack: &mut R,
     drive: u16,
-    first: u16,
-    end: u16,
+    blocks: Range<u16>,
     bytes: &[u8; 512],
 ) -> Result<(), RackFault>
-    ensures { Plays (run drive first (end - first) bytes.now) (R.Rack.meaning rack.old) (result_err result) (R.Rack.meaning rack.new) }
+    ensures { Plays (run drive blocks.start (blocks.end - blocks.start) bytes.now) (R.Rack.meaning rack.old) (result_err result) (R.Rack.meaning rack.new) }
 {
-    for block in first..end {
+    for block in blocks {
         write_at(rack, drive, block, bytes)?;
     }
     Ok(())
@@ -90,12 +90,11 @@ fn write_run<R: Rack>(
 pub fn settle_run<R: Rack>(
     rack: &mut R,
     drive: u16,
-    first: u16,
-    end: u16,
+    blocks: Range<u16>,
     bytes: &[u8; 512],
 ) -> Result<(), RackFault>
-    ensures { Plays (settled_run drive first (end - first) bytes.now) (R.Rack.meaning rack.old) (result_err result) (R.Rack.meaning rack.new) }
+    ensures { Plays (settled_run drive blocks.start (blocks.end - blocks.start) bytes.now) (R.Rack.meaning rack.old) (result_err result) (R.Rack.meaning rack.new) }
 {
-    write_run(rack, drive, first, end, bytes)?;
+    write_run(rack, drive, blocks, bytes)?;
     rack.flush(drive)
 }
