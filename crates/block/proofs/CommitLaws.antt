@@ -1,18 +1,16 @@
 -- The block of a commit.
 use Rattle.std.proofs.Common.{◌≡◌, ℕ, ◌%◌, ◌≤◌, List, ◌++◌, length, get_or, drop, refl, ap, ◌∙◌, arith}
-use Rattle.block.specs.Bytes.{bytes4, at4, zeros}
+use Rattle.std.proofs.lemmas.List.Folds.{drop_split}
+use Rattle.block.specs.Bytes.{bytes_from, zeros}
 use Rattle.block.specs.Commits.{CommitOk, commit_block, commit_of, CommitShaped}
 use Rattle.block.specs.declared.commits.Commit.{Commit}
-use Rattle.block.proofs.Numbers.{at4_bytes4, bytes_from, drop_bytes_from, drop_between, AllBytes, bytes4_at4, bytes4_low, at4_fits}
+use Rattle.block.proofs.Numbers.{at4_bytes4, drop_bytes_from, AllBytes, bytes4_at4, bytes4_low, at4_fits}
 use Rattle.block.proofs.Zeros.{length_zeros, zeros_join, three_zeros, zero_each, part_is_zeros, tail_is_zeros, zero_tail}
 use Rattle.block.proofs.Reading.{Layout}
 
 pub length_commit_block : (c : Commit) → length (commit_block c) ≡ 512
 unfolding commit_block
 length_commit_block c = simp length_zeros
-
-abbrev make : ℕ → ℕ → ℕ → Commit
-make r s n = record { round = r; set = s; number = n }
 
 -- reading what was written
 pub commit_of_commit_block : (c : Commit) → CommitOk c → commit_of (commit_block c) ≡ c
@@ -21,8 +19,7 @@ commit_of_commit_block c ok =
     let r = at4_bytes4 c.round ok.round in
     let s : c.set % 256 ≡ c.set = omega arith in
     let n : c.number % 256 ≡ c.number = omega arith in
-    let e : make (at4 (bytes4 c.round) 0) (c.set % 256) (c.number % 256) ≡ make c.round c.set c.number = cc in
-    e
+    rw (r, s, n) refl
 
 commit_shaped : (c : Commit) → CommitOk c → CommitShaped (commit_block c)
 unfolding commit_block
@@ -41,9 +38,9 @@ commit_block_commit_of : (b : List ℕ) → length b ≡ 512 → AllBytes b → 
 unfolding commit_block
 commit_block_commit_of b l small s =
     let d0 : b ≡ bytes_from b 0 1 ++ drop 1 b = drop_bytes_from b 0 1 (omega arith) in
-    let d1 = drop_between b 1 4 (omega arith) in
+    let d1 = drop_split b 1 4 (omega arith) in
     let d4 = drop_bytes_from b 4 5 (omega arith) in
-    let d9 = drop_between b 9 12 (omega arith) in
+    let d9 = drop_split b 9 12 (omega arith) in
     let d12 = drop_bytes_from b 12 1 (omega arith) in
     let z1 = part_is_zeros b 1 4 (omega arith) s.before_round in
     let z9 = part_is_zeros b 9 12 (omega arith) s.behind_set in

@@ -1,18 +1,15 @@
 -- The block of a head.
 use Rattle.std.proofs.Common.{◌≡◌, ℕ, ◌≤◌, List, ◌++◌, length, drop, refl, arith}
-use Rattle.block.specs.Bytes.{bytes2, bytes4, at2, at4}
+use Rattle.block.specs.Bytes.{bytes_from}
 use Rattle.block.specs.Heads.{HeadOk, head_block, head_of, HeadShaped}
 use Rattle.block.specs.declared.Head.{Head}
-use Rattle.block.proofs.Numbers.{at2_bytes2, at4_bytes4, bytes_from, drop_bytes_from, AllBytes, bytes2_at2, bytes4_at4, at2_fits, at4_fits}
+use Rattle.block.proofs.Numbers.{at2_bytes2, at4_bytes4, drop_bytes_from, AllBytes, bytes2_at2, bytes4_at4, at2_fits, at4_fits}
 use Rattle.block.proofs.Zeros.{length_zeros, tail_is_zeros, zero_tail}
 use Rattle.block.proofs.Reading.{Layout}
 
 pub length_head_block : (h : Head) → length (head_block h) ≡ 512
 unfolding head_block
 length_head_block h = simp length_zeros
-
-abbrev make : ℕ → ℕ → ℕ → Head
-make p r n = record { pages = p; round = r; logs = n }
 
 -- reading what was written
 pub head_of_head_block : (h : Head) → HeadOk h → head_of (head_block h) ≡ h
@@ -21,8 +18,7 @@ head_of_head_block h ok =
     let p = at2_bytes2 h.pages ok.pages in
     let r = at4_bytes4 h.round ok.round in
     let n = at2_bytes2 h.logs ok.logs in
-    let e : make (at2 (bytes2 h.pages) 0) (at4 (bytes4 h.round) 0) (at2 (bytes2 h.logs) 0) ≡ make h.pages h.round h.logs = cc in
-    e
+    rw (p, r, n) refl
 
 head_shaped : (h : Head) → HeadShaped (head_block h)
 unfolding head_block

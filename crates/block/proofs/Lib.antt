@@ -1,3 +1,4 @@
+pub mod FromFn
 pub mod Numbers
 pub mod Zeros
 pub mod Reading

@@ -19,20 +19,6 @@ module _ {C : Type 0} {Ok : C → Type 0} {block : C → List ℕ} {of : List �
   test : Bool
   test = eqb (length b) 512 && (ok (of b) && bytes_eq (block (of b)) b)
 
-  passes : (c : C) → Ok c → block c ≡ b → (of b ≡ c) × (test ≡ true)
-  unfolding test
-  passes c o e =
-      let same : of b ≡ c = ap of (sym e) ∙ kind.back c o in
-      let long : length b ≡ 512 = ap length (sym e) ∙ kind.long c o in (
-        same,
-        and_from (eqb (length b) 512) (ok (of b) && bytes_eq (block (of b)) b) (eq-eqb (length b) 512 long)
-            (and_from (ok (of b)) (bytes_eq (block (of b)) b) (ap ok same ∙ fine c o) ((bytes_eq-Decides (block (of b)) b).1 (ap block same ∙ e))),
-      )
-
-  some_is : (c : C) → (of b ≡ c) × (test ≡ true) → Some c ≡ read_as ok block of b
-  unfolding test
-  some_is c p = ap Some (sym p.0) ∙ sym (ap (λ (t : Bool). cond t (Some (of b)) None) p.1)
-
   none_is : (t : Bool) → test ≡ t → ReadsBack Ok block b None → None ≡ cond t (Some (of b)) None
   unfolding test
   none_is false e r = refl
@@ -43,7 +29,13 @@ module _ {C : Type 0} {Ok : C → Type 0} {block : C → List ℕ} {of : List �
 
   pub read_is : (r : Option C) → ReadsBack Ok block b r → r ≡ read_as ok block of b
   unfolding test
-  read_is (Some c) r = let h = (r c).0 refl in some_is c (passes c h.0 h.1)
+  read_is (Some c) r =
+      let h = (r c).0 refl in
+      let same : of b ≡ c = ap of (sym h.1) ∙ kind.back c h.0 in
+      let long : eqb (length b) 512 ≡ true = eq-eqb (length b) 512 (ap length (sym h.1) ∙ kind.long c h.0) in
+      let fits : ok (of b) ≡ true = ap ok same ∙ fine c h.0 in
+      let eq : bytes_eq (block (of b)) b ≡ true = (bytes_eq-Decides (block (of b)) b).1 (ap block same ∙ h.1) in
+      rw (long, fits, eq) (ap Some (sym same))
   read_is None r = none_is test refl r
 
 pub head_is : (b : List ℕ) → AllBytes b → (r : Option Head) → ReadsBack HeadOk head_block b r → r ≡ head_in b

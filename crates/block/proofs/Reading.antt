@@ -1,5 +1,5 @@
 -- When bytes read as a value, and when as nothing: for any kind of block.
-use Rattle.std.proofs.Common.{◌≡◌, ℕ, List, length, Some, None, sym, ap, ◌∙◌, subst, arith}
+use Rattle.std.proofs.Common.{◌≡◌, ℕ, List, length, Some, None, sym, ap, ◌∙◌, subst}
 use Rattle.block.specs.Bytes.{ReadsBack}
 use Rattle.block.proofs.Numbers.{AllBytes}
 
@@ -16,7 +16,7 @@ pub record Layout {C : Type 0} (Ok : C → Type 0) (block : C → List ℕ) (of 
 module _ {C : Type 0} {Ok : C → Type 0} {block : C → List ℕ} {of : List ℕ → C} {Shaped : List ℕ → Type 0} (kind : Layout Ok block of Shaped) (b : List ℕ) where
   -- the bytes are the block of no value
   none : ((c : C) → Ok c → block c ≡ b → ⊥) → ReadsBack Ok block b None
-  none not = λ c. ((λ h. let z : ◌≡◌ {A = ℕ} 0 1 = cc in absurd (omega arith)), (λ h. absurd (not c h.0 h.1)))
+  none not = λ c. ((λ h. cc), (λ h. absurd (not c h.0 h.1)))
 
   -- the only value whose block the bytes can be
   only : (c : C) → Ok c → block c ≡ b → of b ≡ c

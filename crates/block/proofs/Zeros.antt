@@ -1,6 +1,6 @@
 -- Laws of `zeros`.
-use Rattle.std.proofs.Common.{◌≡◌, ℕ, ◌+◌, ◌-◌, ◌<◌, ◌≤◌, List, [], ◌∷◌, ◌++◌, length, get_or, take, drop, sym, refl, ap, ◌∙◌, arith}
-use Rattle.std.proofs.lemmas.List.{length-replicate, get_or-replicate, drop-replicate, take-replicate, replicate-append-replicate, ext_get_or}
+use Rattle.std.proofs.Common.{◌≡◌, ℕ, zero, suc, ◌+◌, ◌-◌, ◌≤◌, List, [], ◌∷◌, ◌++◌, length, get_or, drop, sym, refl, ◌∙◌, arith}
+use Rattle.std.proofs.lemmas.List.{length-replicate, drop-replicate, replicate-append-replicate, ext_get_or}
 use Rattle.std.proofs.lemmas.Slice.{between_to_end}
 use Rattle.std.proofs.lemmas.List.Edits.{length-between}
 use Rattle.std.specs.List.{between}
@@ -10,17 +10,16 @@ pub length_zeros : (n : ℕ) → length (zeros n) ≡ n
 unfolding zeros
 length_zeros n = length-replicate n 0
 
-pub get_or_zeros : (n i : ℕ) → i < n → get_or (zeros n) i 0 ≡ 0
+-- also past the end, where the default is 0 as well
+pub get_or_zeros : (n i : ℕ) → get_or (zeros n) i 0 ≡ 0
 unfolding zeros
-get_or_zeros n i h = get_or-replicate n i 0 0 h
+get_or_zeros zero i = refl
+get_or_zeros (suc n) zero = refl
+get_or_zeros (suc n) (suc i) = get_or_zeros n i
 
 pub drop_zeros : (m n : ℕ) → drop m (zeros n) ≡ zeros (n - m)
 unfolding zeros
 drop_zeros m n = drop-replicate m n 0
-
-pub take_zeros : (m n : ℕ) → m ≤ n → take m (zeros n) ≡ zeros m
-unfolding zeros
-take_zeros m n h = take-replicate m n 0 h
 
 pub zeros_join : (m n : ℕ) → zeros m ++ zeros n ≡ zeros (m + n)
 unfolding zeros
@@ -33,17 +32,14 @@ three_zeros = refl
 
 -- bytes are zeros exactly where each of them is zero
 pub zeros_from : (xs : List ℕ) (n : ℕ) → length xs ≡ n → AllZero xs → xs ≡ zeros n
-zeros_from xs n e h = ext_get_or 0 xs (zeros n) (e ∙ sym (length_zeros n)) (λ i l. h i l ∙ sym (get_or_zeros n i (omega arith)))
+zeros_from xs n e h = ext_get_or 0 xs (zeros n) (e ∙ sym (length_zeros n)) (λ i l. h i l ∙ sym (get_or_zeros n i))
 
 pub zero_each : (xs : List ℕ) (n : ℕ) → xs ≡ zeros n → AllZero xs
-zero_each xs n e k h = ap (λ s. get_or s k 0) e ∙ get_or_zeros n k (omega (arith, ap length e, length_zeros n))
+zero_each xs n e k h = rw e (get_or_zeros n k)
 
--- bytes copied over the first of n zeros, as `block[0..end]` has them
-pub over_zeros : (n : ℕ) (front part : List ℕ) → part ≡ front → part ++ drop (length front - 0) (zeros n) ≡ front ++ zeros (n - length front)
-over_zeros n front part e =
-    let d = drop_zeros (length front) n in
-    let k : length front - 0 ≡ length front = omega arith in
-    cc
+-- bytes copied over the first of n zeros, as `block[..front.len()]` has them
+pub over_zeros : (n : ℕ) (front part : List ℕ) → part ≡ front → part ++ drop (length front) (zeros n) ≡ front ++ zeros (n - length front)
+over_zeros n front part e = let d = drop_zeros (length front) n in cc
 
 -- the bytes from m on up to n, as a reader looks at them in `&block[m..n]`
 pub part_is_zeros : (b : List ℕ) (m n : ℕ) → n ≤ length b → AllZero (between m n b) → between m n b ≡ zeros (n - m)

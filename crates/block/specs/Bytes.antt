@@ -2,10 +2,11 @@
 --
 --   bytes2 n, bytes4 n        the number n in two bytes and in four, the low byte first
 --   at2 b i, at4 b i          the number in the two bytes, or the four, of b from place i on
+--   bytes_from b i n          the n bytes of b from place i on; past the end they count as zero
 --   zeros n                   n bytes that are zero
 --   AllZero b                 each byte of b is zero
 --   ReadsBack Ok block b r    b reads as r: as c exactly where c is Ok and its block is b, else as nothing
-use Rattle.std.specs.Prelude.{◌≡◌, ℕ, ◌+◌, ◌*◌, ◌/◌, ◌%◌, ◌<◌, List, [], ◌∷◌, length, replicate, Some, Option, slice_index}
+use Rattle.std.specs.Prelude.{◌≡◌, ℕ, zero, suc, ◌+◌, ◌*◌, ◌/◌, ◌%◌, ◌<◌, List, [], ◌∷◌, length, replicate, Some, Option, slice_index}
 
 -- all of a number below 2^16
 abbrev pub bytes2 : ℕ → List ℕ
@@ -20,6 +21,10 @@ at2 b i = slice_index b i + slice_index b (i + 1) * 256
 
 abbrev pub at4 : List ℕ → ℕ → ℕ
 at4 b i = slice_index b i + slice_index b (i + 1) * 256 + slice_index b (i + 2) * 65536 + slice_index b (i + 3) * 16777216
+
+abbrev pub bytes_from : List ℕ → ℕ → ℕ → List ℕ
+bytes_from b i zero = []
+bytes_from b i (suc n) = slice_index b i ∷ bytes_from b (i + 1) n
 
 -- kept shut in proofs, since it is long
 unfoldable pub zeros : ℕ → List ℕ

@@ -1,10 +1,11 @@
 -- The block of a change.
-use Rattle.std.proofs.Common.{◌≡◌, ℕ, ◌+◌, ◌-◌, ◌*◌, ◌%◌, ◌≤◌, List, ◌++◌, length, get_or, drop, sym, refl, ap, ◌∙◌, subst, arith}
+use Rattle.std.proofs.Common.{◌≡◌, ℕ, ◌+◌, ◌-◌, ◌*◌, ◌%◌, ◌≤◌, List, ◌++◌, map, length, get_or, drop, sym, refl, ap, ◌∙◌, subst, arith}
 use Rattle.std.specs.List.{flat_map, between}
 use Rattle.std.proofs.lemmas.List.{length-append, append_assoc, drop_at}
 use Rattle.std.proofs.lemmas.List.Edits.{length-between}
-use Rattle.block.specs.Bytes.{bytes2, bytes4, at2, at4, zeros, AllZero}
-use Rattle.block.proofs.Numbers.{at2_bytes2, at4_bytes4, bytes_from, drop_bytes_from, drop_between, AllBytes, bytes2_at2, bytes4_at4, bytes4_low}
+use Rattle.std.proofs.lemmas.List.Folds.{drop_split}
+use Rattle.block.specs.Bytes.{bytes_from, zeros, AllZero}
+use Rattle.block.proofs.Numbers.{at2_bytes2, at4_bytes4, drop_bytes_from, AllBytes, bytes2_at2, bytes4_at4, bytes4_low}
 use Rattle.block.proofs.Zeros.{length_zeros, three_zeros, zero_each, part_is_zeros, tail_is_zeros, zero_tail}
 use Rattle.block.proofs.Reading.{Layout}
 use Rattle.change.specs.Pairs.{total, slots_of, pair_bytes, pairs_in}
@@ -13,9 +14,6 @@ use Rattle.change.specs.declared.runs.Pair.{Pair}
 use Rattle.change.proofs.Parts.{between_at, drop_of_between, bytes_between}
 use Rattle.change.proofs.PairLists.{paired_parts, total_bound}
 use Rattle.change.proofs.PairCodec.{length_pairs_bytes, length_slot_bytes, slots_bytes, length_pairs_in, pairs_in_written, written_pairs_in}
-
-abbrev make : ℕ → ℕ → ℕ → ℕ → List Pair → List ℕ → List ℕ → Content
-make p r s t ps b a = record { page = p; round = r; set = s; step = t; pairs = ps; before = b; after = a }
 
 -- the parts of a block that was written
 module _ (v : Content) (ok : ChangeOk v) where
@@ -78,8 +76,7 @@ module _ (v : Content) (ok : ChangeOk v) where
       let t = at4_bytes4 v.step ok.step in
       let x = before_part in
       let y = after_part in
-      let e : make (at2 (bytes2 v.page) 0) (at4 (bytes4 v.round) 0) (v.set % 256) (at4 (bytes4 v.step) 0) v.pairs (between 32 (32 + total v.pairs) (change_block v)) (between (32 + total v.pairs) (32 + 2 * total v.pairs) (change_block v)) ≡ make v.page v.round v.set v.step v.pairs v.before v.after = cc in
-      e
+      rw (x, y, p, r, s, t) refl
 
   pub content_of_change_block : content_of (change_block v) ≡ v
   unfolding content_of
@@ -105,12 +102,12 @@ module _ (v : Content) (ok : ChangeOk v) where
       }
 
   -- the block as a writer joins it
-  pub assembled_is : (r h s : List ℕ) → r ≡ h ++ (s ++ (v.before ++ (v.after ++ zeros (480 - (length v.before + length v.after))))) → h ≡ change_head v → s ≡ flat_map pair_bytes (slots_of v.pairs) → r ≡ change_block v
+  pub assembled_is : (r h : List ℕ) (s : List (List ℕ)) → r ≡ h ++ (flat_map (λ x. x) s ++ (v.before ++ (v.after ++ zeros (480 - (length v.before + length v.after))))) → h ≡ change_head v → s ≡ map pair_bytes (slots_of v.pairs) → r ≡ change_block v
   unfolding change_block
   assembled_is r h s d e f =
       let n : 480 - (length v.before + length v.after) ≡ 480 - 2 * total v.pairs = omega (arith, ok.before, ok.after) in
-      let g = f ∙ slots_bytes v.pairs few in
-      d ∙ ap (λ k. h ++ (s ++ (v.before ++ (v.after ++ zeros k)))) n ∙ ap (λ x. x ++ (s ++ (v.before ++ (v.after ++ tail)))) e ∙ ap (λ x. change_head v ++ (x ++ (v.before ++ (v.after ++ tail)))) g
+      let g = ap (flat_map (λ x. x)) f ∙ slots_bytes v.pairs few in
+      d ∙ ap (λ k. h ++ (flat_map (λ x. x) s ++ (v.before ++ (v.after ++ zeros k)))) n ∙ ap (λ x. x ++ (flat_map (λ x. x) s ++ (v.before ++ (v.after ++ tail)))) e ∙ ap (λ x. change_head v ++ (x ++ (v.before ++ (v.after ++ tail)))) g
 
 -- writing what was read
 module _ (b : List ℕ) (long : length b ≡ 512) (small : AllBytes b) where
@@ -126,7 +123,7 @@ module _ (b : List ℕ) (long : length b ≡ 512) (small : AllBytes b) where
   head_again : (ps : List Pair) (t : ℕ) → Marked b → length ps ≡ get_or b 1 0 → change_head (content_with b ps t) ++ drop 16 b ≡ b
   head_again ps t mark n =
       let d0 : b ≡ bytes_from b 0 9 ++ drop 9 b = drop_bytes_from b 0 9 (omega arith) in
-      let d9 = drop_between b 9 12 (omega arith) in
+      let d9 = drop_split b 9 12 (omega arith) in
       let d12 = drop_bytes_from b 12 4 (omega arith) in
       let z9 = part_is_zeros b 9 12 (omega arith) mark.behind_set ∙ sym three_zeros in
       let f = mark.first in
@@ -138,9 +135,9 @@ module _ (b : List ℕ) (long : length b ≡ 512) (small : AllBytes b) where
 
   rest_again : (t : ℕ) → t ≤ 240 → AllZero (between (32 + 2 * t) 512 b) → between 16 32 b ++ (between 32 (32 + t) b ++ (between (32 + t) (32 + 2 * t) b ++ zeros (480 - 2 * t))) ≡ drop 16 b
   rest_again t fits rest =
-      let d16 = drop_between b 16 32 (omega arith) in
-      let d32 = drop_between b 32 (32 + t) (omega arith) in
-      let dt = drop_between b (32 + t) (32 + 2 * t) (omega arith) in
+      let d16 = drop_split b 16 32 (omega arith) in
+      let d32 = drop_split b 32 (32 + t) (omega arith) in
+      let dt = drop_split b (32 + t) (32 + 2 * t) (omega arith) in
       let zt = tail_is_zeros b (32 + 2 * t) 512 long rest in
       let k : 512 - (32 + 2 * t) ≡ 480 - 2 * t = omega arith in
       cc

@@ -1,14 +1,15 @@
 -- The bytes in the runs of pairs, taken out of a content and put into it, run by run.
-use Rattle.std.proofs.Common.{◌≡◌, ℕ, ◌+◌, ◌-◌, ◌<◌, ◌≤◌, true, false, cond, ◌&&◌, ltb, leb, ◌⊎◌, List, [], ◌∷◌, ◌++◌, map, length, get_or, take, drop, sym, refl, ap, ◌∙◌, inl, inr, ⊎_elim, append_assoc, zero-add, arith}
+use Rattle.std.proofs.Common.{◌≡◌, ℕ, ◌+◌, ◌-◌, ◌<◌, ◌≤◌, true, false, cond, ◌&&◌, ltb, leb, ◌⊎◌, List, [], ◌∷◌, ◌++◌, map, length, get_or, take, drop, sym, refl, ap, ◌∙◌, inl, inr, append_assoc, rules, arith}
 use Rattle.std.specs.List.{range_with_len, between}
-use Rattle.std.proofs.lemmas.List.FromFn.{length-map-range_with_len, get_or-map-range_with_len}
+use Rattle.std.proofs.lemmas.List.FromFn.{length-map-range_with_len, fill_by_all}
 use Rattle.std.proofs.lemmas.List.Edits.{length-between}
-use Rattle.std.proofs.lemmas.List.{at_drop_more, at_drop_all, append-nil, drop-drop, ext_get_or, length-append, length-take-le, length-drop, take_at, get_or_append_left, get_or-append_right, get_or-take, get_or-drop}
-use Rattle.std.proofs.lemmas.Bool.{cases_lt, cases_Bool, and_parts, and_from, and_left, and_right, or_from, le-leb, lt-leb, leb-true, lt-ltb, le-ltb, ltb-true}
+use Rattle.std.proofs.lemmas.Bool.Decides.{nat_tests}
+use Rattle.std.proofs.lemmas.List.{places, at_drop_more, at_drop_all, length-append, length-take-le, length-drop, take_at, get_or-take}
+use Rattle.std.proofs.lemmas.Bool.{cases_Bool, and_parts, and_left, or_from, lt-leb, leb-true, ltb-true}
 use Rattle.change.specs.Pairs.{end_of, follows, in_order, total, no_pair}
 use Rattle.change.specs.Edits.{inside, covered, picked, gathered, overlaid}
 use Rattle.change.specs.declared.runs.Pair.{Pair}
-use Rattle.change.proofs.PairLists.{follows_parts, total_more, total_ends}
+use Rattle.change.proofs.PairLists.{follows_parts, total_more}
 use Rattle.change.proofs.Parts.{over}
 
 -- the next pair of a walk over pairs in order
@@ -40,9 +41,6 @@ pub record Gathering (ps : List Pair) (content : List ℕ) (i at : ℕ) (buf : L
   pub front : take at buf ++ gathered (drop i ps) content ≡ gathered ps content
 
 module _ (ps : List Pair) (content : List ℕ) (sized : length content ≡ 240) where
-  pub gathering_none : (buf : List ℕ) → in_order 0 ps ≡ true → Gathering ps content 0 0 buf
-  gathering_none buf o = record { last = 0; low = omega arith; high = omega arith; order = o; count = zero-add (total ps); front = refl }
-
   pub gathering_more : (i at : ℕ) (buf : List ℕ) → i < length ps → length buf ≡ 240 → Gathering ps content i at buf →
       Gathering ps content (i + 1) (at + (get_or ps i no_pair).length) (over buf at (between (get_or ps i no_pair).offset ((get_or ps i no_pair).offset + (get_or ps i no_pair).length) content))
   gathering_more i at buf h l g =
@@ -53,8 +51,7 @@ module _ (ps : List Pair) (content : List ℕ) (sized : length content ≡ 240) 
       let part = between p.offset (p.offset + p.length) content in
       let long : length part ≡ p.length = length_run content p.offset p.length (omega (arith, n.within)) in
       let put : take (at + p.length) (over buf at part) ≡ take at buf ++ part =
-      sym (ap (take (at + p.length)) (append_assoc (take at buf) part (drop (at + length part) buf))) ∙
-      take_at (take at buf ++ part) (drop (at + length part) buf) (at + p.length) (length-append (take at buf) part ∙ omega (arith, length-take-le at buf (omega (arith, n.within, n.behind, g.low)), long)) in
+      rw (append_assoc (take at buf) part (drop (at + length part) buf)) at (take_at (take at buf ++ part) (drop (at + length part) buf) (at + p.length) (length-append (take at buf) part ∙ omega (arith, length-take-le at buf (omega (arith, n.within, n.behind, g.low)), long))) in
       let all : gathered (drop i ps) content ≡ part ++ gathered (drop (i + 1) ps) content = at_drop_more (λ qs. gathered qs content) ps i no_pair h ∙ ap (λ k. take k (drop p.offset content) ++ gathered (drop (i + 1) ps) content) (sym e) in
       record {
         last = end_of p;
@@ -64,11 +61,6 @@ module _ (ps : List Pair) (content : List ℕ) (sized : length content ≡ 240) 
         count = omega (arith, g.count);
         front = ap (λ xs. xs ++ gathered (drop (i + 1) ps) content) put ∙ append_assoc (take at buf) part _ ∙ ap (λ xs. take at buf ++ xs) (sym all) ∙ g.front;
       }
-
-  pub gathering_all : (i at : ℕ) (buf : List ℕ) → length ps ≤ i → Gathering ps content i at buf → (at ≡ total ps) × (take at buf ≡ gathered ps content)
-  gathering_all i at buf h g =
-      let t = total_ends i ps h in
-      (omega (arith, g.count), sym (append-nil (take at buf)) ∙ ap (λ xs. take at buf ++ xs) (sym (at_drop_all (λ qs. gathered qs content) ps i h)) ∙ g.front)
 
 -- there are as many gathered bytes as the pairs cover
 pub length_gathered : (last : ℕ) (ps : List Pair) (content : List ℕ) → length content ≡ 240 → in_order last ps ≡ true → length (gathered ps content) ≡ total ps
@@ -84,32 +76,9 @@ length_gathered last (p ∷ ps) content l o =
 
 -- a byte of a content that a part was put over
 over_byte : (c part : List ℕ) (at n k : ℕ) → length part ≡ n → at + n ≤ length c → get_or (over c at part) k 0 ≡ cond (leb at k && ltb k (at + n)) (get_or part (k - at) 0) (get_or c k 0)
-over_byte c part at n k l h = ⊎_elim before after (cases_lt k at)
-  where
-    front : length (take at c) ≡ at
-    front = length-take-le at c (omega arith)
-
-    before : k < at → get_or (over c at part) k 0 ≡ cond (leb at k && ltb k (at + n)) (get_or part (k - at) 0) (get_or c k 0)
-    before b =
-        let off : (leb at k && ltb k (at + n)) ≡ false = and_left (leb at k) (ltb k (at + n)) (lt-leb at k b) in
-        rw off (get_or_append_left (take at c) (part ++ drop (at + length part) c) 0 k (omega (arith, front)) ∙ get_or-take at c k 0 b)
-
-    behind : at ≤ k → get_or (over c at part) k 0 ≡ get_or (part ++ drop (at + length part) c) (k - at) 0
-    behind b = get_or-append_right (take at c) (part ++ drop (at + length part) c) at k 0 front b
-
-    after : at ≤ k → get_or (over c at part) k 0 ≡ cond (leb at k && ltb k (at + n)) (get_or part (k - at) 0) (get_or c k 0)
-    after b = ⊎_elim in_part past (cases_lt k (at + n))
-      where
-        in_part : k < at + n → get_or (over c at part) k 0 ≡ cond (leb at k && ltb k (at + n)) (get_or part (k - at) 0) (get_or c k 0)
-        in_part d =
-            let on : (leb at k && ltb k (at + n)) ≡ true = and_from (leb at k) (ltb k (at + n)) (le-leb at k b) (lt-ltb k (at + n) d) in
-            rw on (behind b ∙ get_or_append_left part (drop (at + length part) c) 0 (k - at) (omega arith))
-
-        past : at + n ≤ k → get_or (over c at part) k 0 ≡ cond (leb at k && ltb k (at + n)) (get_or part (k - at) 0) (get_or c k 0)
-        past d =
-            let off : (leb at k && ltb k (at + n)) ≡ false = and_right (leb at k) (ltb k (at + n)) (le-ltb k (at + n) d) in
-            let e : at + length part + (k - at - n) ≡ k = omega arith in
-            rw off (behind b ∙ get_or-append_right part (drop (at + length part) c) n (k - at) 0 l (omega arith) ∙ get_or-drop (at + length part) c (k - at - n) 0 ∙ ap (λ j. get_or c j 0) e)
+over_byte c part at n k l h =
+    let front : length (take at c) ≡ at = length-take-le at c (omega arith) in
+    grind (arith, nat_tests, places)
 
 -- pairs that come behind cover nothing before
 covered_behind : (last k : ℕ) (ps : List Pair) → in_order last ps ≡ true → k < last → covered ps k ≡ false
@@ -152,47 +121,37 @@ length_overlaid ps bytes c = length-map-range_with_len (byte ps bytes c) 0 240
 -- nothing is to come
 no_run : (bytes c : List ℕ) → length c ≡ 240 → overlaid [] bytes c ≡ c
 unfolding overlaid
-no_run bytes c l =
-    ext_get_or 0 (map (λ k. get_or c k 0) (range_with_len 0 240)) c (length-map-range_with_len (λ k. get_or c k 0) 0 240 ∙ sym l)
-    (λ k h. get_or-map-range_with_len (λ i. get_or c i 0) 0 240 k k 0 (omega (arith, length-map-range_with_len (λ i. get_or c i 0) 0 240)) (zero-add k))
+no_run bytes c l = sym (fill_by_all (λ k. get_or c k 0) c 240 0 l (λ k h. refl))
 
 pub length_over : (c part : List ℕ) (at : ℕ) → at + length part ≤ length c → length (over c at part) ≡ length c
-length_over c part at h =
-    length-append (take at c) (part ++ drop (at + length part) c) ∙ omega (arith, length-append part (drop (at + length part) c), length-take-le at c (omega arith), length-drop (at + length part) c)
+length_over c part at h = search (rules, places)
 
--- the runs of the pairs before place i are put in, with the bytes before `from`
-pub record Laying (ps : List Pair) (bytes old : List ℕ) (i from : ℕ) (new : List ℕ) : Type 0 where
+-- the runs of the pairs before place i are put in, and `rest` has the bytes of the others
+pub record Laying (ps : List Pair) (bytes old : List ℕ) (i : ℕ) (rest new : List ℕ) : Type 0 where
   pub last : ℕ
   pub order : in_order last (drop i ps) ≡ true
-  pub count : from + total (drop i ps) ≡ length bytes
+  pub count : length rest ≡ total (drop i ps)
   pub sized : length new ≡ 240
-  pub same : overlaid (drop i ps) (drop from bytes) new ≡ overlaid ps bytes old
+  pub same : overlaid (drop i ps) rest new ≡ overlaid ps bytes old
 
 module _ (ps : List Pair) (bytes old : List ℕ) where
-  pub laying_none : in_order 0 ps ≡ true → length bytes ≡ total ps → length old ≡ 240 → Laying ps bytes old 0 0 old
-  laying_none o t l = record { last = 0; order = o; count = zero-add (total ps) ∙ sym t; sized = l; same = refl }
-
-  pub laying_more : (i from : ℕ) (new : List ℕ) → i < length ps → Laying ps bytes old i from new →
-      Laying ps bytes old (i + 1) (from + (get_or ps i no_pair).length) (over new (get_or ps i no_pair).offset (between from (from + (get_or ps i no_pair).length) bytes))
-  laying_more i from new h g =
+  pub laying_more : (i : ℕ) (rest new : List ℕ) → i < length ps → Laying ps bytes old i rest new →
+      Laying ps bytes old (i + 1) (drop (get_or ps i no_pair).length rest) (over new (get_or ps i no_pair).offset (take (get_or ps i no_pair).length rest))
+  laying_more i rest new h g =
       let n = next_pair ps i g.last h g.order in
       let p = get_or ps i no_pair in
       let t = total_more i ps h in
-      let e : from + p.length - from ≡ p.length = omega arith in
-      let l : length (drop from bytes) ≡ length bytes - from = length-drop from bytes in
-      let few : p.length ≤ length (drop from bytes) = omega (arith, g.count) in
-      let long : length (take p.length (drop from bytes)) ≡ p.length = length-take-le p.length (drop from bytes) few in
-      let step = one_run p (drop (i + 1) ps) (drop from bytes) new few (omega (arith, n.within, g.sized)) n.order in
-      let here : overlaid (drop i ps) (drop from bytes) new ≡ overlaid (p ∷ drop (i + 1) ps) (drop from bytes) new = at_drop_more (λ qs. overlaid qs (drop from bytes) new) ps i no_pair h in
+      let few : p.length ≤ length rest = omega (arith, g.count) in
+      let long : length (take p.length rest) ≡ p.length = length-take-le p.length rest few in
       record {
         last = end_of p;
         order = n.order;
-        count = omega (arith, g.count);
-        sized = ap (λ k. length (over new p.offset (take k (drop from bytes)))) e ∙ length_over new (take p.length (drop from bytes)) p.offset (omega (arith, n.within, g.sized)) ∙ g.sized;
+        count = length-drop p.length rest ∙ omega (arith, g.count);
+        sized = length_over new (take p.length rest) p.offset (omega (arith, n.within, g.sized)) ∙ g.sized;
         same =
-            ap (λ k. overlaid (drop (i + 1) ps) (drop (from + p.length) bytes) (over new p.offset (take k (drop from bytes)))) e ∙
-            ap (λ xs. overlaid (drop (i + 1) ps) xs (over new p.offset (take p.length (drop from bytes)))) (sym (drop-drop p.length from bytes)) ∙ step ∙ sym here ∙ g.same;
+            one_run p (drop (i + 1) ps) rest new few (omega (arith, n.within, g.sized)) n.order
+            ∙ sym (at_drop_more (λ qs. overlaid qs rest new) ps i no_pair h) ∙ g.same;
       }
 
-  pub laying_all : (i from : ℕ) (new : List ℕ) → length ps ≤ i → Laying ps bytes old i from new → new ≡ overlaid ps bytes old
-  laying_all i from new h g = sym (no_run (drop from bytes) new g.sized) ∙ sym (at_drop_all (λ qs. overlaid qs (drop from bytes) new) ps i h) ∙ g.same
+  pub laying_all : (i : ℕ) (rest new : List ℕ) → length ps ≤ i → Laying ps bytes old i rest new → new ≡ overlaid ps bytes old
+  laying_all i rest new h g = sym (no_run rest new g.sized) ∙ sym (at_drop_all (λ qs. overlaid qs rest new) ps i h) ∙ g.same

@@ -1,6 +1,6 @@
 -- A reader of changes gives what `change_in` says.
-use Rattle.std.proofs.Common.{◌≡◌, ℕ, true, ◌&&◌, leb, List, length, Some, Option, refl}
-use Rattle.std.proofs.lemmas.Bool.{and_parts, and_from, leb-true, le-leb}
+use Rattle.std.proofs.Common.{◌≡◌, ℕ, true, leb, List, length, Some, Option, refl}
+use Rattle.std.proofs.lemmas.Bool.{and_parts, leb-true, le-leb}
 use Rattle.block.specs.Bytes.{ReadsBack}
 use Rattle.block.proofs.Numbers.{AllBytes}
 use Rattle.block.proofs.ReadAs.{read_is}
@@ -11,9 +11,7 @@ use Rattle.change.proofs.ChangeLaws.{changes}
 use Rattle.change.proofs.ReadLaws.{content_ok}
 
 is_fine : (v : Content) → ChangeOk v → change_fine v ≡ true
-is_fine v o =
-    and_from (well_paired v.pairs) (leb 1 v.set && leb 1 v.step) o.paired
-    (and_from (leb 1 v.set) (leb 1 v.step) (le-leb 1 v.set o.some_set) (le-leb 1 v.step o.some_step))
+is_fine v o = rw (o.paired, le-leb 1 v.set o.some_set, le-leb 1 v.step o.some_step) refl
 
 is_sound : (b : List ℕ) → AllBytes b → length b ≡ 512 → change_fine (content_of b) ≡ true → ChangeOk (content_of b)
 unfolding content_of

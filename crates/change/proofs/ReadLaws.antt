@@ -12,10 +12,10 @@ use Rattle.change.proofs.PairLists.{paired_parts, total_bound}
 
 some_answer : (b : Bool) (s t : ℕ) → Some s ≡ cond b (Some t) None → (b ≡ true) × (s ≡ t)
 some_answer true s t e = (refl, cc)
-some_answer false s t e = let z : ◌≡◌ {A = ℕ} 0 1 = cc in absurd (omega arith)
+some_answer false s t e = cc
 
 no_answer : (b : Bool) (t : ℕ) → None ≡ cond b (Some t) None → b ≡ false
-no_answer true t e = let z : ◌≡◌ {A = ℕ} 0 1 = cc in absurd (omega arith)
+no_answer true t e = cc
 no_answer false t e = refl
 
 module _ (b : List ℕ) (ps : List Pair) (found : ps ≡ pairs_of b) where

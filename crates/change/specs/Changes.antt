@@ -16,7 +16,8 @@
 use Rattle.std.specs.Prelude.{◌≡◌, ℕ, ◌+◌, ◌-◌, ◌*◌, ◌^◌, ◌<◌, ◌≤◌, true, List, ◌∷◌, ◌++◌, length, Option, MatchOption, slice_index}
 use Rattle.std.specs.List.{flat_map, between}
 use Rattle.block.specs.Bytes.{bytes2, bytes4, at2, at4, zeros, AllZero}
-use Rattle.change.specs.Pairs.{well_paired, total, listed, pair_bytes, pairs_in}
+use Rattle.change.specs.Held.{listed}
+use Rattle.change.specs.Pairs.{well_paired, total, pair_bytes, pairs_in}
 use Rattle.change.specs.declared.runs.Pair.{Pair}
 use Rattle.change.specs.declared.Change.{Change}
 

@@ -1,4 +1,5 @@
 pub mod Pairs
+pub mod Held
 pub mod Changes
 pub mod Edits
 pub mod Readings

@@ -7,16 +7,14 @@
 --   total ps            the sum of the lengths
 --   total_in ps         that sum, if the pairs can stand in a change
 --   covering ps n       the pairs can stand in a change, and cover n bytes
---   listed held         the list of pairs that is held
 --   no_pair             an empty pair
 --   slots_of ps         the first four pairs, with empty ones where there are fewer
 --   pair_bytes p        the pair p in four bytes
 --   pair_at bytes i     the pair in the four bytes from place i on
 --   pairs_in n bytes    the n pairs that the bytes begin with
-use Rattle.std.specs.Prelude.{ℕ, zero, suc, ◌+◌, min, Bool, true, cond, ◌&&◌, List, [], ◌∷◌, ◌++◌, length, take, drop, Some, None, Option, ◌==◌, nat_le, slice_index_or}
+use Rattle.std.specs.Prelude.{ℕ, zero, suc, ◌+◌, Bool, true, cond, ◌&&◌, List, [], ◌∷◌, ◌++◌, length, drop, Some, None, Option, ◌==◌, nat_le, slice_index_or}
 use Rattle.block.specs.Bytes.{bytes2, at2}
 use Rattle.change.specs.declared.runs.Pair.{Pair}
-use Rattle.change.specs.declared.runs.Pairs.{Pairs}
 
 abbrev pub end_of : Pair → ℕ
 end_of p = p.offset + p.length
@@ -41,10 +39,6 @@ total_in ps = cond (well_paired ps) (Some (total ps)) None
 
 abbrev pub covering : List Pair → ℕ → Bool
 covering ps n = well_paired ps && n == total ps
-
--- a count above 4 is read as 4
-abbrev pub listed : Pairs → List Pair
-listed held = take (min held.count 4) held.slots
 
 abbrev pub no_pair : Pair
 no_pair = record { offset = 0; length = 0 }

@@ -8,14 +8,16 @@ ghost use Rattle.change.specs.Edits.{gathered, overlaid};
 
 use crate::put;
 use crate::runs::{Pair, covers, total};
+use block::PAGE_BYTES;
 
 // The bytes in the runs of pairs that stand in order, joined at the front of a buffer; answers how many there are.
-fn gather_runs(pairs: &[Pair], content: &[u8], joined: &mut [u8]) -> usize
-    requires { (in_order 0 pairs.now ≡ true) × ((length content.now ≡ 240) × (length joined.old ≡ 240)) }
+fn gather_runs(pairs: &[Pair], content: &[u8; PAGE_BYTES], joined: &mut [u8; PAGE_BYTES]) -> usize
+    requires { in_order 0 pairs.now ≡ true }
     ensures count { result ≡ sum_of pairs.now }
     ensures most { result ≤ 240 }
     ensures front { take result joined.new ≡ gathered pairs.now content.now }
 {
+    // `at` is the answer too: with the buffer cut by `split_at_mut` it would have to be counted all the same.
     let mut at = 0;
     for pair in pairs {
         let from = pair.offset as usize;
@@ -26,35 +28,41 @@ fn gather_runs(pairs: &[Pair], content: &[u8], joined: &mut [u8]) -> usize
     at
 }
 
-// The bytes of a page's content in the runs of the pairs, joined at the front of a buffer; answers how many there are: none
-// where the pairs cannot stand in a change.
-pub fn gather(pairs: &[Pair], content: &[u8; 240], joined: &mut [u8; 240]) -> usize
-    ensures count { result ≡ (if well_paired pairs.now then sum_of pairs.now else 0) }
-    ensures most { result ≤ 240 }
-    ensures front { take result joined.new ≡ (if well_paired pairs.now then gathered pairs.now content.now else []) }
+// The bytes of a page's content in the runs of the pairs, joined in a buffer; none where the pairs cannot stand in a change.
+pub fn gather<'a>(
+    pairs: &[Pair],
+    content: &[u8; PAGE_BYTES],
+    joined: &'a mut [u8; PAGE_BYTES],
+) -> &'a [u8]
+    ensures value { result.now ≡ (if well_paired pairs.now then gathered pairs.now content.now else []) }
+    ensures count { length result.now ≡ (if well_paired pairs.now then sum_of pairs.now else 0) }
+    ensures most { length result.now ≤ 240 }
 {
     if total(pairs).is_none() {
-        return 0;
+        return &[];
     }
-    gather_runs(pairs, content, joined)
+    let n = gather_runs(pairs, content, joined);
+    &joined[..n]
 }
 
 // Puts joined bytes into the runs of pairs that stand in order.
-fn overlay_runs(pairs: &[Pair], bytes: &[u8], content: &mut [u8])
-    requires { (in_order 0 pairs.now ≡ true) × ((length bytes.now ≡ sum_of pairs.now) × (length content.old ≡ 240)) }
+fn overlay_runs(pairs: &[Pair], bytes: &[u8], content: &mut [u8; PAGE_BYTES])
+    requires order { in_order 0 pairs.now ≡ true }
+    requires count { length bytes.now ≡ sum_of pairs.now }
     ensures { content.new ≡ overlaid pairs.now bytes.now content.old }
 {
-    let mut from = 0;
+    // cut off as it goes: an iterator of the runs would be longer than this
+    let mut rest = bytes;
     for pair in pairs {
-        let end = from + pair.length as usize;
-        put(content, pair.offset as usize, &bytes[from..end]);
-        from = end;
+        let (run, behind) = rest.split_at(pair.length as usize);
+        put(content, pair.offset as usize, run);
+        rest = behind;
     }
 }
 
 // Puts joined bytes into the runs of the pairs, in the content of a page; nothing is done where the pairs cannot stand in a
-// change or the bytes are not as many as they cover.
-pub fn overlay(pairs: &[Pair], bytes: &[u8], content: &mut [u8; 240])
+// change or the bytes are not as many as they cover. Pairs and bytes come as a caller has them, in two slices.
+pub fn overlay(pairs: &[Pair], bytes: &[u8], content: &mut [u8; PAGE_BYTES])
     ensures { content.new ≡ (if covering pairs.now (length bytes.now) then overlaid pairs.now bytes.now content.old else content.old) }
 {
     if covers(pairs, bytes.len()) {

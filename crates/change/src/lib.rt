@@ -6,9 +6,10 @@
 #![tactic(auto)]
 
 ghost use Rattle.std.specs.Prelude.{◌≡◌, ◌+◌, ◌-◌, ◌≤◌, ◌++◌, length, take, drop, Decides};
+ghost use Rattle.std.specs.List.{flat_map};
 ghost use Rattle.std.specs.Option.{option_map};
 ghost use Rattle.block.specs.Bytes.{zeros, ReadsBack};
-ghost use Rattle.change.specs.Pairs.{listed};
+ghost use Rattle.change.specs.Held.{listed};
 ghost use Rattle.change.specs.Changes.{ChangeOk, change_head, change_block, Writes, content_with, Marked, view};
 
 use crate::runs::slot_bytes;
@@ -42,21 +43,20 @@ fn put(block: &mut [u8], at: usize, part: &[u8])
 }
 
 // The block with these parts one behind the other, and zeros behind them.
-fn assembled(head: &[u8], slots: &[u8], before: &[u8], after: &[u8]) -> [u8; 512]
-    requires { (length head.now ≡ 16) × ((length slots.now ≡ 16) × (length before.now + length after.now ≤ 480)) }
-    ensures { result ≡ head.now ++ (slots.now ++ (before.now ++ (after.now ++ zeros (480 - (length before.now + length after.now))))) }
+fn assembled(head: &[u8; 16], slots: &[[u8; 4]; 4], before: &[u8], after: &[u8]) -> [u8; 512]
+    requires { length before.now + length after.now ≤ 480 }
+    ensures { result ≡ head.now ++ (flat_map (λ x. x) slots.now ++ (before.now ++ (after.now ++ zeros (480 - (length before.now + length after.now))))) }
 {
     let mut block = [0; 512];
     put(&mut block, 0, head);
-    put(&mut block, 16, slots);
+    put(&mut block, 16, slots.as_flattened());
     put(&mut block, 32, before);
     put(&mut block, 32 + before.len(), after);
     block
 }
 
-// Whether a block of 512 bytes has the mark and a count of a change, and zeros behind the set and the pairs.
-fn is_marked(block: &[u8]) -> bool
-    requires { length block.now ≡ 512 }
+// Whether a block has the mark and a count of a change, and zeros behind the set and the pairs.
+fn is_marked(block: &[u8; 512]) -> bool
     ensures { Decides result (Marked block.now) }
 {
     block[0] == 1
@@ -78,22 +78,24 @@ impl<'a> Change<'a> {
     fn is_sound(self) -> bool
         ensures { Decides result (ChangeOk (view self.entry)) }
     {
-        let Some(sum) = total(self.pairs()) else {
-            return false;
-        };
-        self.before.len() == sum && self.after.len() == sum && self.set >= 1 && self.step >= 1
+        covers(self.pairs(), self.before.len())
+            && covers(self.pairs(), self.after.len())
+            && self.set >= 1
+            && self.step >= 1
     }
 
     // Bytes 0 to 15 of the block.
     fn head(&self) -> [u8; 16]
         ensures { result ≡ change_head (view self.now) }
     {
-        let n = self.pairs().len() as u8;
-        let [p, q] = self.page.to_le_bytes();
-        let [a, b, c, d] = self.round.to_le_bytes();
-        let [e, f, g, h] = u32::from(self.set).to_le_bytes();
-        let [i, j, k, l] = self.step.to_le_bytes();
-        [1, n, p, q, a, b, c, d, e, f, g, h, i, j, k, l]
+        let mut head = [0; 16];
+        head[0] = 1;
+        head[1] = self.pairs().len() as u8;
+        head[2..4].copy_from_slice(&self.page.to_le_bytes());
+        head[4..8].copy_from_slice(&self.round.to_le_bytes());
+        head[8..12].copy_from_slice(&u32::from(self.set).to_le_bytes());
+        head[12..16].copy_from_slice(&self.step.to_le_bytes());
+        head
     }
 
     // The block of this change, or nothing where no block says it: its pairs cannot stand in a change, it has not as
@@ -112,9 +114,9 @@ impl<'a> Change<'a> {
         ))
     }
 
-    // The change that stands in a block of 512 bytes, with these pairs and so many bytes in their runs.
-    fn of(block: &'a [u8], pairs: Pairs, sum: usize) -> Change<'a>
-        requires { (length block.now ≡ 512) × (sum ≤ 240) }
+    // The change that stands in a block, with these pairs and so many bytes in their runs.
+    fn of(block: &'a [u8; 512], pairs: Pairs, sum: usize) -> Change<'a>
+        requires { sum ≤ 240 }
         ensures { view result ≡ content_with block.now (listed pairs) sum }
     {
         Change {
@@ -132,17 +134,13 @@ impl<'a> Change<'a> {
     pub fn read(block: &'a [u8]) -> Option<Change<'a>>
         ensures { ReadsBack ChangeOk change_block block.now (option_map view result) }
     {
-        if block.len() != 512 {
-            return None;
-        }
+        let block = block.as_array()?;
         if !is_marked(block) {
             return None;
         }
-        let pairs = Pairs::read(&block[16..32], block[1] as usize);
-        let Some(sum) = total(pairs.as_slice()) else {
-            return None;
-        };
-        if !is_zero(&block[32 + 2 * sum..512]) {
+        let pairs = Pairs::read(block)?;
+        let sum = total(pairs.as_slice())?;
+        if !is_zero(&block[32 + 2 * sum..]) {
             return None;
         }
         let change = Change::of(block, pairs, sum);

@@ -1,13 +1,14 @@
 // Pairs of offset and length: the runs of bytes of a page that a change touches.
-ghost use Rattle.std.specs.Prelude.{◌≡◌, ◌<◌, ◌≤◌, length, IfSome, if◌then◌else◌, Some, None, MatchOption, slice_index_or};
-ghost use Rattle.std.specs.List.{flat_map};
-ghost use Rattle.change.specs.Pairs.{end_of, follows, in_order, total_in, covering, listed, no_pair, slots_of, pair_bytes, pair_at, pairs_in};
+ghost use Rattle.std.specs.Prelude.{◌≡◌, ◌<◌, ◌≤◌, length, IfSome, if◌then◌else◌, Some, None, MatchOption, slice_index, map};
+ghost use Rattle.std.specs.List.{between};
+ghost use Rattle.change.specs.Pairs.{end_of, follows, in_order, total_in, covering, slots_of, pair_bytes, pair_at, pairs_in};
 ghost use Rattle.change.specs.Pairs.{total as sum_of};
 
-use block::word;
+use block::{PAGE_BYTES, word};
+use std::array;
 
 // A run of bytes of a page: where it starts, and how many bytes it has.
-#[derive(Clone, Copy)]
+#[derive(Clone, Copy, Default, PartialEq, Eq, Debug)]
 pub struct Pair {
     pub offset: u16,
     pub length: u16,
@@ -25,26 +26,26 @@ impl Pair {
     fn starts_after(self, from: usize) -> bool
         ensures { result ≡ follows from self }
     {
-        self.length >= 1 && self.offset as usize >= from && self.end() <= 240
+        self.length >= 1 && self.offset as usize >= from && self.end() <= PAGE_BYTES
     }
 
     // The pair in four bytes.
     fn bytes(self) -> [u8; 4]
         ensures { result ≡ pair_bytes self }
     {
+        // two writes into an array would be no shorter
         let [a, b] = self.offset.to_le_bytes();
         let [c, d] = self.length.to_le_bytes();
         [a, b, c, d]
     }
 
-    // The pair in the four bytes from a place on.
-    fn at(bytes: &[u8], at: usize) -> Pair
-        requires { at ≤ 12 }
-        ensures { result ≡ pair_at bytes.now at }
+    // The pair in the first four bytes.
+    fn read(bytes: &[u8]) -> Pair
+        ensures { result ≡ pair_at bytes.now 0 }
     {
         Pair {
-            offset: word(bytes, at),
-            length: word(bytes, at + 2),
+            offset: word(bytes, 0),
+            length: word(bytes, 2),
         }
     }
 }
@@ -54,6 +55,7 @@ fn sum_in_order(pairs: &[Pair]) -> Option<usize>
     ensures value { result ≡ (if in_order 0 pairs.now then Some (sum_of pairs.now) else None) }
     ensures bound { IfSome result (λ n. n ≤ 240) }
 {
+    // `try_fold` was tried: that the sum fits follows from both running values, and of those a closure is told nothing
     let mut end = 0;
     let mut sum = 0;
     for p in pairs {
@@ -82,53 +84,35 @@ pub fn total(pairs: &[Pair]) -> Option<usize>
 pub fn covers(pairs: &[Pair], bytes: usize) -> bool
     ensures { result ≡ covering pairs.now bytes }
 {
-    match total(pairs) {
-        Some(sum) => bytes == sum,
-        None => false,
-    }
-}
-
-// The pair at a place, or an empty one past the end.
-fn nth(pairs: &[Pair], at: usize) -> Pair
-    ensures { result ≡ slice_index_or pairs.now at no_pair }
-{
-    if at < pairs.len() {
-        pairs[at]
-    } else {
-        Pair {
-            offset: 0,
-            length: 0,
-        }
-    }
+    total(pairs) == Some(bytes)
 }
 
 // The first four pairs, with empty ones where there are fewer.
 fn slots(pairs: &[Pair]) -> [Pair; 4]
     ensures { result ≡ slots_of pairs.now }
 {
-    [nth(pairs, 0), nth(pairs, 1), nth(pairs, 2), nth(pairs, 3)]
+    array::from_fn(|i| pairs.get(i).copied().unwrap_or_default())
 }
 
-// The pairs in 16 bytes, with zeros where there are fewer than four.
-pub(crate) fn slot_bytes(pairs: &[Pair]) -> [u8; 16]
-    ensures { result ≡ flat_map pair_bytes (slots_of pairs.now) }
+// The first four pairs in four bytes each, with zeros where there are fewer.
+pub(crate) fn slot_bytes(pairs: &[Pair]) -> [[u8; 4]; 4]
+    ensures { result ≡ map pair_bytes (slots_of pairs.now) }
 {
-    let [p, q, r, s] = slots(pairs);
-    let [a, b, c, d] = p.bytes();
-    let [e, f, g, h] = q.bytes();
-    let [i, j, k, l] = r.bytes();
-    let [m, n, o, t] = s.bytes();
-    [a, b, c, d, e, f, g, h, i, j, k, l, m, n, o, t]
+    slots(pairs).map(Pair::bytes)
 }
 
-// At most four pairs, held by value.
+// At most four pairs, held by value: there is no heap, and a change, which holds them beside what it borrows, is `Copy` to
+// callers. With a model here, or the kit's vector of a fixed capacity, it would not be; so the invariant is a ghost field.
 #[derive(Clone, Copy)]
 pub struct Pairs {
     slots: [Pair; 4],
     count: usize,
+    ghost few: { count ≤ 4 },
 }
 
 impl Pairs {
+    ghost use Rattle.change.specs.Held.{listed};
+
     // These pairs, in any order; refused where there are more than four.
     pub fn new(pairs: &[Pair]) -> Option<Pairs>
         ensures { MatchOption result (4 < length pairs.now) (λ held. listed held ≡ pairs.now) }
@@ -142,25 +126,19 @@ impl Pairs {
         })
     }
 
-    // The first pairs of four that stand in 16 bytes.
-    pub(crate) fn read(bytes: &[u8], count: usize) -> Pairs
-        requires { count ≤ 4 }
-        ensures { listed result ≡ pairs_in count bytes.now }
+    // The pairs that stand in a block where a change has its pairs, if byte 1 counts no more than four.
+    pub(crate) fn read(block: &[u8; 512]) -> Option<Pairs>
+        ensures { MatchOption result (4 < slice_index block.now 1) (λ held. listed held ≡ pairs_in (slice_index block.now 1) (between 16 32 block.now)) }
     {
-        let slots = [
-            Pair::at(bytes, 0),
-            Pair::at(bytes, 4),
-            Pair::at(bytes, 8),
-            Pair::at(bytes, 12),
-        ];
-        Pairs { slots, count }
+        let all: [Pair; 4] = array::from_fn(|i| Pair::read(&block[16 + 4 * i..]));
+        Pairs::new(all.get(..block[1] as usize)?)
     }
 
-    // The pairs that are held. A struct that a change holds can have no ghost field, so a count above 4 is read as 4.
+    // The pairs that are held.
     pub(crate) fn as_slice(&self) -> &[Pair]
         ensures value { result.now ≡ listed self.now }
         ensures few { length result.now ≤ 4 }
     {
-        &self.slots[0..self.count.min(4)]
+        &self.slots[..self.count]
     }
 }

@@ -1,4 +1,4 @@
-use Rattle.std.proofs.Common.{refl}
+use Rattle.std.proofs.Common.{rules, ◌+◌, ◌-◌, ◌++◌, length, refl, ap, ◌∙◌}
 use Rattle.block.specs.Bytes.{zeros}
 use Rattle.change.proofs.Parts.{four_parts}
 use Rattle.change.proofs.assembled.Goals as goal
@@ -6,5 +6,6 @@ use Rattle.change.proofs.assembled.Goals as goal
 pub returns : goal.returns
 unfolding zeros
 returns c =
-    four_parts c.args.head.now c.args.slots.now c.args.before.now c.args.after.now _ _ _ _ _
-    c.requires.0 c.requires.1.0 refl c.put.ensures c.put-2.ensures c.put-3.ensures c.put-4.ensures
+    let s = c.as_flattened.result.now in
+    four_parts c.args.head.now s c.args.before.now c.args.after.now _ _ _ _ _ (search rules) (search rules) refl c.put.ensures c.put-2.ensures c.put-3.ensures c.put-4.ensures
+    ∙ ap (λ s. c.args.head.now ++ (s ++ (c.args.before.now ++ (c.args.after.now ++ zeros (480 - (length c.args.before.now + length c.args.after.now)))))) c.as_flattened.ensures.value

@@ -1,8 +1,0 @@
-use Rattle.std.proofs.Common.{◌-◌, ◌++◌, length, ap, ◌∙◌}
-use Rattle.block.specs.Bytes.{zeros}
-use Rattle.block.specs.Commits.{commit_block}
-use Rattle.block.proofs.commits.Commit.block.Goals as goal
-
-pub returns : goal.returns
-unfolding commit_block
-returns c = c.padded.ensures.value ∙ ap (λ f. f ++ zeros (512 - length f)) c.front.ensures
