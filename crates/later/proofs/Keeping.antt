@@ -1,6 +1,6 @@
 -- What is kept of many values is the latest of them.
-use Rattle.std.proofs.Common.{◌≡◌, Bool, true, List, [], ◌∷◌, refl, inl, inr, ⊎_elim, arith}
-use Rattle.std.proofs.lemmas.Bool.{cases_Bool, cases_cond}
+use Rattle.std.proofs.Common.{◌≡◌, Bool, true, List, [], ◌∷◌, refl, inl, inr, ⊎_elim, arith, rules}
+use Rattle.std.proofs.lemmas.Bool.{cases_Bool}
 use Rattle.later.specs.Order.{TotalOrder}
 use Rattle.later.specs.Keeping.{later, latest, Among, SameMembers}
 
@@ -16,21 +16,14 @@ module _ {V : Type 0} {upto : V → V → Bool} (o : TotalOrder upto) where
   start_upto k (x ∷ xs) = o.transitive k (later upto k x) _ (first_upto k x) (start_upto (later upto k x) xs)
 
   pub none_later : (k : V) (xs : List V) (x : V) → Among x (k ∷ xs) → upto x (latest upto k xs) ≡ true
-  none_later k xs x (inl e) = rw e (start_upto k xs)
-  none_later k [] x (inr m) = elim m [ ]
-  none_later k (y ∷ ys) x (inr (inl e)) = rw e (o.transitive y (later upto k y) _ (second_upto k y) (start_upto (later upto k y) ys))
+  none_later k xs x (inl e) = let s = start_upto k xs in cc
+  none_later k [] x (inr m) = absurd m
+  none_later k (y ∷ ys) x (inr (inl e)) = let s = start_upto (later upto k y) ys in let t = o.transitive y (later upto k y) _ (second_upto k y) s in cc
   none_later k (y ∷ ys) x (inr (inr m)) = none_later (later upto k y) ys x (inr m)
 
   pub met : (k : V) (xs : List V) → Among (latest upto k xs) (k ∷ xs)
   met k [] = inl refl
-  met k (x ∷ xs) = go (met (later upto k x) xs)
-    where
-      v : V
-      v = latest upto (later upto k x) xs
-
-      go : Among v (later upto k x ∷ xs) → Among v (k ∷ x ∷ xs)
-      go (inl e) = ⊎_elim (λ p. inr (inl p)) (λ p. inl p) (cases_cond (upto k x) x k v e)
-      go (inr m) = inr (inr m)
+  met k (x ∷ xs) = let m = met (later upto k x) xs in let d = cases_Bool (upto k x) in search rules
 
   upto_same : (k : V) (xs ys : List V) → ((x : V) → Among x xs → Among x ys) → upto (latest upto k xs) (latest upto k ys) ≡ true
   upto_same k xs ys f = none_later k ys _ (⊎_elim (λ e. inl e) (λ m. inr (f _ m)) (met k xs))

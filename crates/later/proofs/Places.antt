@@ -1,7 +1,8 @@
 -- Each place of a list keeps the latest of what came to it.
-use Rattle.std.proofs.Common.{◌≡◌, ℕ, ◌<◌, Bool, true, false, cond, eqb, ◌≢◌, List, [], ◌∷◌, length, get_or, sym, refl, ap, ◌∙◌, inl, inr}
-use Rattle.std.proofs.lemmas.List.{length-set, get_or-set_same, get_or-set_other, get_or_default, same_lists}
-use Rattle.std.proofs.lemmas.Bool.{eqb-true, eqb-false, eq-eqb}
+use Rattle.std.proofs.Common.{◌≡◌, ℕ, ◌<◌, Bool, cond, eqb, List, [], ◌∷◌, length, get_or, sym, refl, ◌∙◌, inl, inr, arith, rules}
+use Rattle.std.proofs.lemmas.List.{length-set, get_or_default, same_lists}
+use Rattle.std.proofs.lemmas.Grind.{common_steps}
+use Rattle.std.proofs.lemmas.Bool.{cases_Bool, eqb-true, eq-eqb}
 use Rattle.later.specs.Order.{TotalOrder}
 use Rattle.later.specs.Keeping.{later, latest, kept_later, kept_all, came_to, Among, SameMembers, KeepsTheLatest}
 use Rattle.later.proofs.Keeping.{met, none_later, same}
@@ -13,42 +14,26 @@ module _ {V : Type 0} (upto : V → V → Bool) where
 
   -- a value that came to another place changes nothing here
   pub place_kept : (l : List V) (j i : ℕ) (x d : V) → i < length l → get_or (kept_later upto l j x) i d ≡ cond (eqb j i) (later upto (get_or l i d) x) (get_or l i d)
-  place_kept l j i x d h = go (eqb j i) refl
-    where
-      go : (t : Bool) → eqb j i ≡ t → get_or (kept_later upto l j x) i d ≡ cond t (later upto (get_or l i d) x) (get_or l i d)
-      go true e = rw (eqb-true j i e) (get_or-set_same l i _ d h ∙ ap (λ (y : V). later upto y x) (get_or_default l i x d h))
-      go false e = let ne : i ≢ j = λ p. eqb-false j i e (sym p) in get_or-set_other l j i _ d ne
-
-  latest_if : (t : Bool) (k x : V) (xs : List V) → latest upto (cond t (later upto k x) k) xs ≡ latest upto k (cond t (x ∷ xs) xs)
-  latest_if true k x xs = refl
-  latest_if false k x xs = refl
+  place_kept l j i x d h = let e = get_or_default l i x d h in grind (arith, common_steps)
 
   pub places : (l : List V) (cs : List (ℕ × V)) (i : ℕ) (d : V) → i < length l → get_or (kept_all upto l cs) i d ≡ latest upto (get_or l i d) (came_to i cs)
   places l [] i d h = refl
   places l (c ∷ cs) i d h =
-      places (kept_later upto l c.0 c.1) cs i d (simp length-set h) ∙
-      ap (λ (x : V). latest upto x (came_to i cs)) (place_kept l c.0 i c.1 d h) ∙
-      latest_if (eqb c.0 i) (get_or l i d) c.1 (came_to i cs)
+      let p = places (kept_later upto l c.0 c.1) cs i d (simp length-set h) in
+      let k = place_kept l c.0 i c.1 d h in
+      let b = cases_Bool (eqb c.0 i) in
+      search rules
 
 module _ {V : Type 0} where
-  among_if : (t : Bool) (x y : V) (ys : List V) → Among x ys → Among x (cond t (y ∷ ys) ys)
-  among_if true x y ys m = inr m
-  among_if false x y ys m = m
-
   -- to come to a place, and to be among what came to it, are one
   pub came_among : (i : ℕ) (x : V) (cs : List (ℕ × V)) → Among (i, x) cs → Among x (came_to i cs)
-  came_among i x [] m = elim m [ ]
+  came_among i x [] m = absurd m
   came_among i x (c ∷ cs) (inl e) = rw (eq-eqb c.0 i (cc)) (inl (cc))
-  came_among i x (c ∷ cs) (inr m) = among_if (eqb c.0 i) x c.1 (came_to i cs) (came_among i x cs m)
+  came_among i x (c ∷ cs) (inr m) = let f = came_among i x cs m in let b = cases_Bool (eqb c.0 i) in search rules
 
   pub among_came : (i : ℕ) (x : V) (cs : List (ℕ × V)) → Among x (came_to i cs) → Among (i, x) cs
-  among_came i x [] m = elim m [ ]
-  among_came i x (c ∷ cs) m = go (eqb c.0 i) refl (among_came i x cs) m
-    where
-      go : (t : Bool) → eqb c.0 i ≡ t → (Among x (came_to i cs) → Among (i, x) cs) → Among x (cond t (c.1 ∷ came_to i cs) (came_to i cs)) → Among (i, x) (c ∷ cs)
-      go true e f (inl p) = let q = eqb-true c.0 i e in let r : ◌≡◌ {A = ℕ × V} (i, x) (c.0, c.1) = cc in inl r
-      go true e f (inr n) = inr (f n)
-      go false e f n = inr (f n)
+  among_came i x [] m = absurd m
+  among_came i x (c ∷ cs) m = let f = among_came i x cs in let b = cases_Bool (eqb c.0 i) in search (rules, eqb-true)
 
   pub came_same : (i : ℕ) (cs ds : List (ℕ × V)) → SameMembers cs ds → SameMembers (came_to i cs) (came_to i ds)
   came_same i cs ds f x = (λ m. came_among i x ds ((f (i, x)).0 (among_came i x cs m)), λ m. came_among i x cs ((f (i, x)).1 (among_came i x ds m)))

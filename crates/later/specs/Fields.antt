@@ -1,7 +1,7 @@
 -- Numbers are in a total order, and so are values that rank by their fields and then by a total order of the rest.
-use Rattle.std.specs.Prelude.{◌≡◌, ℕ, Bool, true, false, cond, ◌⊎◌, List, [], ◌∷◌, ◌==◌, ◌≢◌, nat_le, nat_lt, refl}
+use Rattle.std.specs.Prelude.{◌≡◌, ℕ, Bool, true, ◌⊎◌, List, [], ◌∷◌, ◌≢◌, nat_le, refl}
 use Rattle.std.proofs.Common.{inl, inr, arith}
-use Rattle.std.proofs.lemmas.Bool.{eq-eqb, eqb-true, true≢false}
+use Rattle.std.proofs.lemmas.Bool.{cases_eq, eq-eqb}
 use Rattle.std.proofs.lemmas.Bool.Decides.{nat_tests}
 use Rattle.later.specs.Order.{TotalOrder, by_fields}
 
@@ -28,8 +28,8 @@ fields_transitive (x ∷ xs) (y ∷ ys) (z ∷ zs) p q r f h k = let t = fields_
 
 pub fields_antisymmetric : (xs ys : List ℕ) (p q : Bool) → by_fields xs ys p ≡ true → by_fields ys xs q ≡ true → (xs ≡ ys) × (p ≡ true) × (q ≡ true)
 fields_antisymmetric [] [] p q h k = (refl, h, k)
-fields_antisymmetric [] (y ∷ ys) p q h k = absurd (true≢false (cc))
-fields_antisymmetric (x ∷ xs) [] p q h k = absurd (true≢false (cc))
+fields_antisymmetric [] (y ∷ ys) p q h k = cc
+fields_antisymmetric (x ∷ xs) [] p q h k = cc
 fields_antisymmetric (x ∷ xs) (y ∷ ys) p q h k =
     let e : x ≡ y = grind (arith, nat_tests) in
     let t = fields_antisymmetric xs ys p q (grind (arith, nat_tests)) (grind (arith, nat_tests)) in
@@ -46,11 +46,7 @@ pub fields_decide : (xs ys : List ℕ) (p q : Bool) → (xs ≢ ys) → by_field
 fields_decide [] [] p q n = absurd (n refl)
 fields_decide [] (y ∷ ys) p q n = refl
 fields_decide (x ∷ xs) [] p q n = refl
-fields_decide (x ∷ xs) (y ∷ ys) p q n = go (x == y) refl (fields_decide xs ys p q)
-  where
-    go : (t : Bool) → (x == y) ≡ t → ((xs ≢ ys) → by_fields xs ys p ≡ by_fields xs ys q) → cond t (by_fields xs ys p) (nat_lt x y) ≡ cond t (by_fields xs ys q) (nat_lt x y)
-    go true e f = f (λ s. n (cc (eqb-true x y e)))
-    go false e f = refl
+fields_decide (x ∷ xs) (y ∷ ys) p q n = let t = fields_decide xs ys p q in let b = cases_eq x y in grind (arith, nat_tests)
 
 -- values with the same fields and the same rest are to be the same
 pub by_fields_lem : {V W : Type 0} {upto : W → W → Bool} → TotalOrder upto → (fields : V → List ℕ) (rest : V → W) →

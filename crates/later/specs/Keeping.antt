@@ -8,7 +8,10 @@
 --   Among x xs               x is one of xs
 --   SameMembers xs ys        what is in one of the lists is in the other, in whatever order and however often
 --   KeepsTheLatest upto      the law of what is kept: neither the order in which values come nor how often each comes counts
+--   KeptBy cmp upto          values that cmp compares are kept by the total order upto
 use Rattle.std.specs.Prelude.{◌≡◌, ℕ, ◌<◌, Bool, true, cond, ◌⊎◌, List, [], ◌∷◌, length, ◌==◌, slice_index_or, slice_set}
+use Rattle.std.specs.declared.cmp.Ordering.{Ordering}
+use Rattle.later.specs.Order.{TotalOrder, upto_by}
 
 -- of equal values it does not matter which
 abbrev pub later : {V : Type 0} → (V → V → Bool) → V → V → V
@@ -48,3 +51,9 @@ pub record KeepsTheLatest {V : Type 0} (upto : V → V → Bool) : Type 0 where
   pub places : (l : List V) (cs : List (ℕ × V)) (i : ℕ) (d : V) → i < length l → slice_index_or (kept_all upto l cs) i d ≡ latest upto (slice_index_or l i d) (came_to i cs)
   -- so the same values to the same places leave the same list
   pub same_list : (l : List V) (cs ds : List (ℕ × V)) → SameMembers cs ds → kept_all upto l cs ≡ kept_all upto l ds
+
+-- the order that the code compares by, as a derived one, is the one that the definitions name
+pub record KeptBy {V : Type 0} (cmp : V → V → Ordering) (upto : V → V → Bool) : Type 0 where
+  pub order : TotalOrder upto
+  pub same : (x y : V) → upto_by cmp x y ≡ upto x y
+  pub lawful : KeepsTheLatest upto

@@ -3,3 +3,4 @@ pub mod Keeping
 pub mod Stamps
 pub mod Marks
 pub mod Fields
+pub mod Apart

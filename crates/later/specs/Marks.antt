@@ -1,6 +1,5 @@
 -- Marks are in a total order: those with the same fields and the same byte are the same.
 use Rattle.std.specs.Prelude.{◌≡◌, ℕ, Bool, ◌≢◌, refl}
-use Rattle.std.proofs.Common.{arith}
 use Rattle.later.specs.declared.Stamp.{Stamp}
 use Rattle.later.specs.declared.Stamp.TheVariants.{Drive, Before, After}
 use Rattle.later.specs.declared.Mark.{Mark}
@@ -8,17 +7,24 @@ use Rattle.later.specs.Order.{TotalOrder, by_fields}
 use Rattle.later.specs.Stamps.{stamp_fields, mark_upto}
 use Rattle.later.specs.Fields.{numbers_ordered, fields_decide, by_fields_lem}
 
+abbrev before : ℕ → ℕ → Stamp
+before drive block = Before (record { drive = drive; block = block })
+
+abbrev after : ℕ → ℕ → ℕ → ℕ → ℕ → Stamp
+after commit set step drive block = After (record { commit = commit; set = set; step = step; place = record { drive = drive; block = block } })
+
 -- stamps of two kinds differ in the class
 pub one_stamp : (s t : Stamp) → stamp_fields s ≡ stamp_fields t → s ≡ t
 one_stamp Drive Drive e = refl
-one_stamp Drive (Before d b) e = let z : ◌≡◌ {A = ℕ} 0 1 = cc in absurd (omega arith)
-one_stamp Drive (After n s t d b) e = let z : ◌≡◌ {A = ℕ} 0 2 = cc in absurd (omega arith)
-one_stamp (Before d b) Drive e = let z : ◌≡◌ {A = ℕ} 1 0 = cc in absurd (omega arith)
-one_stamp (Before d b) (Before d' b') e = cc
-one_stamp (Before d b) (After n s t d' b') e = let z : ◌≡◌ {A = ℕ} 1 2 = cc in absurd (omega arith)
-one_stamp (After n s t d b) Drive e = let z : ◌≡◌ {A = ℕ} 2 0 = cc in absurd (omega arith)
-one_stamp (After n s t d b) (Before d' b') e = let z : ◌≡◌ {A = ℕ} 2 1 = cc in absurd (omega arith)
-one_stamp (After n s t d b) (After n' s' t' d' b') e = cc
+one_stamp Drive (Before p) e = cc
+one_stamp Drive (After c) e = cc
+one_stamp (Before p) Drive e = cc
+one_stamp (Before p) (Before q) e = let r : before p.drive p.block ≡ before q.drive q.block = cc in r
+one_stamp (Before p) (After c) e = cc
+one_stamp (After c) Drive e = cc
+one_stamp (After c) (Before p) e = cc
+one_stamp (After c) (After d) e =
+    let r : after c.commit c.set c.step c.place.drive c.place.block ≡ after d.commit d.set d.step d.place.drive d.place.block = cc in r
 
 abbrev marked : Stamp → ℕ → Mark
 marked s b = record { stamp = s; byte = b }

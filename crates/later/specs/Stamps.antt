@@ -11,8 +11,8 @@ use Rattle.later.specs.Order.{by_fields}
 -- first the class: 0 for the drive's own byte, 1 for a before byte, 2 for an after byte
 abbrev pub stamp_fields : Stamp → List ℕ
 stamp_fields Drive = 0 ∷ []
-stamp_fields (Before drive block) = 1 ∷ drive ∷ block ∷ []
-stamp_fields (After commit set step drive block) = 2 ∷ commit ∷ set ∷ step ∷ drive ∷ block ∷ []
+stamp_fields (Before p) = 1 ∷ p.drive ∷ p.block ∷ []
+stamp_fields (After c) = 2 ∷ c.commit ∷ c.set ∷ c.step ∷ c.place.drive ∷ c.place.block ∷ []
 
 -- the mark with the larger stamp is the later; changes in different blocks never have equal stamps, and that equal
 -- stamps rank by the byte makes this a total order on all marks

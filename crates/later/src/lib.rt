@@ -10,139 +10,80 @@
 #![tactic(auto)]
 
 ghost use Rattle.std.specs.Prelude.{◌≡◌, Bool, nat_le};
-ghost use Rattle.later.specs.Order.{TotalOrder, by_first, by_fields};
-ghost use Rattle.later.specs.Keeping.{later, kept_later, KeepsTheLatest};
-ghost use Rattle.later.specs.Stamps.{stamp_fields, mark_upto};
-ghost use Rattle.std.proofs.Common.{rules};
-ghost use Rattle.later.specs.Marks.{marks_ordered};
+ghost use Rattle.later.specs.Order.{TellsApart, upto_by};
+ghost use Rattle.later.specs.Keeping.{kept_later, KeepsTheLatest, KeptBy};
+ghost use Rattle.later.specs.Stamps.{mark_upto};
+ghost use Rattle.later.specs.Apart.{numbers_apart, marks_apart};
 
-// A kind of value with a total order: `upto x y` says that `x` is no later than `y`.
-pub trait Ranked {
-    ghost upto: { Self → Self → Bool };
-
-    // Whether this value is no later than the other.
-    fn is_upto(&self, other: &Self) -> bool
-        ensures { result ≡ upto self.now other.now };
-
-    ghost order: { TotalOrder upto };
-}
-
-// The later of the two.
-fn later_of<T: Ranked + Copy>(old: T, new: T) -> T
-    ensures { result ≡ later T.upto old new }
-{
-    if old.is_upto(&new) { new } else { old }
-}
-
-// Keeps in one place of the slice the later of what is there and the new value. A place past the end changes
-// nothing.
-pub fn keep_later<T: Ranked + Copy>(kept: &mut [T], at: usize, new: T)
-    ensures after { kept.new ≡ kept_later T.upto kept.old at new }
-    ensures lawful { KeepsTheLatest T.upto }
-{
-    if at < kept.len() {
-        kept[at] = later_of(kept[at], new);
-    }
+// A kind of value whose order tells different values apart. The library's `Ord` is a total order already; with this law
+// it is one of the values themselves.
+pub trait Ranked: Ord + Copy {
+    ghost apart: { TellsApart Self.cmp };
 }
 
 // Commit numbers: the larger is the later.
 impl Ranked for u8 {
-    ghost upto = { nat_le };
+    ghost apart = { numbers_apart };
+}
 
-    ghost order = { Prim.search rules };
+// Marks: the one with the larger stamp is the later.
+impl Ranked for Mark {
+    ghost apart = { marks_apart };
+}
 
-    fn is_upto(&self, other: &u8) -> bool {
-        *self <= *other
+// Whether a value is no later than the other.
+pub fn is_upto<T: Ord>(x: &T, other: &T) -> bool
+    ensures { result ≡ upto_by T.cmp x.now other.now }
+{
+    x <= other
+}
+
+// Keeps in one place of the slice the later of what is there and the new value. A place past the end changes
+// nothing.
+#[tactic(auto, using(crate::proofs::Derived::numbers_kept, crate::proofs::Derived::marks_kept))]
+pub fn keep_later<T: Ranked>(kept: &mut [T], at: usize, new: T)
+    ensures after { kept.new ≡ kept_later (upto_by T.cmp) kept.old at new }
+    ensures lawful { KeepsTheLatest (upto_by T.cmp) }
+    ensures numbers { KeptBy ⟦<u8 as Ord>⟧.cmp nat_le }
+    ensures marks { KeptBy ⟦<Mark as Ord>⟧.cmp mark_upto }
+{
+    // by the index: of a write through `get_mut` the proof learns nothing
+    if at < kept.len() && is_upto(&kept[at], &new) {
+        kept[at] = new;
     }
 }
 
+// Where a record stands: a block of a drive.
+#[derive(Clone, Copy, Debug, PartialEq, Eq, PartialOrd, Ord)]
+pub struct Place {
+    pub drive: u16,
+    pub block: u16,
+}
+
+// A change whose set has a commit number. Its fields are declared in the order in which they count.
+#[derive(Clone, Copy, Debug, PartialEq, Eq, PartialOrd, Ord)]
+pub struct Committed {
+    pub commit: u8,
+    pub set: u8,
+    pub step: u32,
+    pub place: Place,
+}
+
 // Where a byte of a page comes from. Stamps of different kinds rank in the order of the kinds here, and stamps of
-// one kind by their fields, the first in which they differ.
-#[derive(Clone, Copy)]
+// one kind by their fields, the first in which they differ: that is the derived order.
+#[derive(Clone, Copy, Debug, PartialEq, Eq, PartialOrd, Ord)]
 pub enum Stamp {
     // the drive's own byte
     Drive,
     // the before byte of a change whose set has no commit number
-    Before {
-        drive: u16,
-        block: u16,
-    },
+    Before(Place),
     // the after byte of a change whose set has one
-    After {
-        commit: u8,
-        set: u8,
-        step: u32,
-        drive: u16,
-        block: u16,
-    },
+    After(Committed),
 }
 
 // A byte of a page with its stamp.
-#[derive(Clone, Copy)]
+#[derive(Clone, Copy, Debug, PartialEq, Eq, PartialOrd, Ord)]
 pub struct Mark {
     pub stamp: Stamp,
     pub byte: u8,
-}
-
-// Whether a field is below the other, and where they are the same, the rest.
-fn by_first(a: u32, b: u32, rest: bool) -> bool
-    ensures { result ≡ by_first a b rest }
-{
-    if a == b { rest } else { a < b }
-}
-
-// The same of a place: the drive, and then the block.
-fn by_place(a: (u16, u16), b: (u16, u16), rest: bool) -> bool
-    ensures { result ≡ by_first a.0 b.0 (by_first a.1 b.1 rest) }
-{
-    let rest = by_first(a.1.into(), b.1.into(), rest);
-    by_first(a.0.into(), b.0.into(), rest)
-}
-
-impl Stamp {
-    // Whether this stamp is below the other, and where they are the same, the rest.
-    fn by_stamp(self, other: Stamp, rest: bool) -> bool
-        ensures { result ≡ by_fields (stamp_fields self) (stamp_fields other) rest }
-    {
-        match (self, other) {
-            (Stamp::Drive, Stamp::Drive) => rest,
-            (Stamp::Drive, _) => true,
-            (Stamp::Before { .. }, Stamp::Drive) => false,
-            (Stamp::Before { drive, block }, Stamp::Before { drive: d, block: b }) => {
-                by_place((drive, block), (d, b), rest)
-            }
-            (Stamp::Before { .. }, Stamp::After { .. }) => true,
-            (
-                Stamp::After {
-                    commit,
-                    set,
-                    step,
-                    drive,
-                    block,
-                },
-                Stamp::After {
-                    commit: c,
-                    set: s,
-                    step: t,
-                    drive: d,
-                    block: b,
-                },
-            ) => {
-                let rest = by_place((drive, block), (d, b), rest);
-                let rest = by_first(set.into(), s.into(), by_first(step, t, rest));
-                by_first(commit.into(), c.into(), rest)
-            }
-            (Stamp::After { .. }, _) => false,
-        }
-    }
-}
-
-impl Ranked for Mark {
-    ghost upto = { mark_upto };
-
-    ghost order = { marks_ordered };
-
-    fn is_upto(&self, other: &Mark) -> bool {
-        self.stamp.by_stamp(other.stamp, self.byte <= other.byte)
-    }
 }

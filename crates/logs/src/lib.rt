@@ -7,24 +7,26 @@
 // order in which logs and blocks are read does not count.
 #![tactic(auto)]
 
-ghost use Rattle.std.specs.Prelude.{◌≡◌, true, not, nat_le, slice_set};
+ghost use Rattle.std.specs.Prelude.{◌≡◌, true, OnOk, IfSome, nat_le, slice_set};
+ghost use Rattle.std.specs.Option.{option_map};
+ghost use Rattle.change.specs.Changes.{ChangeOk, view};
 ghost use Rattle.later.specs.Keeping.{kept_all};
 ghost use Rattle.later.specs.Stamps.{mark_upto};
 ghost use Rattle.model.specs.Logs.{value_at, record_in, record_of, sound, ill, given, offered, named as page_named};
 ghost use Rattle.model.specs.Recovery.{marked};
-ghost use Rattle.logs.specs.Scans.{counting, some_ill, commits_in, offers_in, named_in};
+ghost use Rattle.logs.specs.Scans.{counting, change_within, some_ill, ok_unless, ok_if, commits_in, offers_in, named_in};
 
 use crate::offers::apply_change;
 use block::{Commit, quad};
 use change::Change;
-use later::{Mark, keep_later};
-use model::read_block;
+use later::{Mark, Place, keep_later};
+use model::{Refusal, read_block};
 use rack::Rack;
 
 mod offers;
 
 // A log: blocks 0 to `blocks` - 1 of a drive. Records of one round count, and the store has so many pages.
-#[derive(Clone, Copy)]
+#[derive(Clone, Copy, Debug)]
 pub struct Log {
     pub drive: u16,
     pub blocks: u16,
@@ -32,19 +34,30 @@ pub struct Log {
     pub pages: u16,
 }
 
-// Takes the commit that stands in a block, if one does. False where the block is no commit and no change of one of so
-// many pages.
-fn take_commit(bytes: &[u8; 512], pages: u16, numbers: &mut [u8; 256]) -> bool
-    ensures answers { result ≡ sound pages (record_in bytes.now) }
+// The change of one of so many pages that stands in a block, if one does. No block is both a change and a commit, so a
+// commit is not looked for.
+fn read_change(bytes: &[u8; 512], pages: u16) -> Option<Change<'_>>
+    ensures value { option_map view result ≡ change_within pages (record_in bytes.now) }
+    ensures sound { IfSome result (λ change. ChangeOk (view change)) }
+{
+    let change = Change::read(bytes)?;
+    (change.page < pages).then_some(change)
+}
+
+// Takes the commit that stands in a block, if one does. A block that is no commit and no change of one of so many pages
+// is a bad record.
+fn take_commit(bytes: &[u8; 512], pages: u16, numbers: &mut [u8; 256]) -> Result<(), Refusal>
+    ensures answers { result ≡ ok_if (sound pages (record_in bytes.now)) }
     ensures keeps { numbers.new ≡ kept_all nat_le numbers.old (given (record_in bytes.now)) }
 {
     if let Some(commit) = Commit::read(bytes) {
         keep_later(numbers, commit.set as usize, commit.number);
-        return true;
+        return Ok(());
     }
-    match Change::read(bytes) {
-        Some(change) => change.page < pages,
-        None => false,
+    // `map` and `ok_or` for the two arms would say no more
+    match read_change(bytes, pages) {
+        Some(_) => Ok(()),
+        None => Err(Refusal::BadRecord),
     }
 }
 
@@ -52,8 +65,10 @@ fn take_commit(bytes: &[u8; 512], pages: u16, numbers: &mut [u8; 256]) -> bool
 fn name_page(named: &mut [bool; 64], page: u16)
     ensures { named.new ≡ slice_set named.old page true }
 {
-    if page < 64 {
-        named[page as usize] = true;
+    let page = page as usize;
+    // by its index: of a write through `get_mut` the proof learns nothing
+    if page < named.len() {
+        named[page] = true;
     }
 }
 
@@ -62,65 +77,41 @@ impl Log {
     fn read_counting<R: Rack>(self, rack: &R, block: u16) -> Option<[u8; 512]>
         ensures { result ≡ counting self.round (value_at (R.Rack.meaning rack.now) self.drive block) }
     {
-        let Some(bytes) = read_block(rack, self.drive, block) else {
-            return None;
-        };
-        if quad(&bytes, 4) != self.round {
-            return None;
-        }
-        Some(bytes)
+        read_block(rack, self.drive, block).filter(|bytes| quad(bytes, 4) == self.round)
     }
 
-    // Takes the commit that counts in one block, if there is one. False where the block counts and is no commit and no
-    // change of one of the pages.
-    fn collect_block<R: Rack>(self, rack: &R, block: u16, numbers: &mut [u8; 256]) -> bool
-        ensures answers { result ≡ not (ill self.round self.pages (value_at (R.Rack.meaning rack.now) self.drive block)) }
+    // Takes the commit that counts in one block, if there is one. A block that counts and is no commit and no change of
+    // one of the pages is a bad record.
+    fn collect_block<R: Rack>(
+        self,
+        rack: &R,
+        block: u16,
+        numbers: &mut [u8; 256],
+    ) -> Result<(), Refusal>
+        ensures answers { result ≡ ok_unless (ill self.round self.pages (value_at (R.Rack.meaning rack.now) self.drive block)) }
         ensures keeps { numbers.new ≡ kept_all nat_le numbers.old (given (record_of self.round (value_at (R.Rack.meaning rack.now) self.drive block))) }
     {
         match self.read_counting(rack, block) {
             Some(bytes) => take_commit(&bytes, self.pages, numbers),
-            None => true,
+            None => Ok(()),
         }
     }
 
-    // Takes the commit records: of two commit numbers of a set the larger stays. False where a block counts and is no
-    // commit and no change of one of the pages; then a part of the numbers may have been taken, so a caller that is to
-    // keep what it had works on a copy.
-    pub fn collect<R: Rack>(self, rack: &R, numbers: &mut [u8; 256]) -> bool
-        ensures answers { result ≡ not (some_ill self (R.Rack.meaning rack.now)) }
-        ensures keeps { result ≡ true → numbers.new ≡ kept_all nat_le numbers.old (commits_in self (R.Rack.meaning rack.now)) }
+    // Takes the commit records: of two commit numbers of a set the larger stays. A block that counts and is no commit and
+    // no change of one of the pages is a bad record; then a part of the numbers may have been taken, so a caller that is
+    // to keep what it had works on a copy.
+    pub fn collect<R: Rack>(self, rack: &R, numbers: &mut [u8; 256]) -> Result<(), Refusal>
+        ensures answers { result ≡ ok_unless (some_ill self (R.Rack.meaning rack.now)) }
+        ensures keeps { OnOk result (numbers.new ≡ kept_all nat_le numbers.old (commits_in self (R.Rack.meaning rack.now))) }
     {
         for block in 0..self.blocks {
-            if !self.collect_block(rack, block, numbers) {
-                return false;
-            }
+            self.collect_block(rack, block, numbers)?;
         }
-        true
+        Ok(())
     }
 
-    // Takes the change of one of the pages that stands in a block, if one does. No block is both a change and a commit, so
-    // a commit is not looked for.
-    fn take_change(
-        self,
-        bytes: &[u8; 512],
-        block: u16,
-        numbers: &[u8; 256],
-        marks: &mut [Mark],
-        named: &mut [bool; 64],
-    )
-        ensures offers { marks.new ≡ kept_all mark_upto marks.old (offered numbers.now self.pages self.drive block (record_in bytes.now)) }
-        ensures names { named.new ≡ marked (page_named self.pages (record_in bytes.now)) named.old }
-    {
-        let Some(change) = Change::read(bytes) else {
-            return;
-        };
-        if change.page < self.pages {
-            apply_change(change, self.drive, block, numbers, marks);
-            name_page(named, change.page);
-        }
-    }
-
-    // Takes the change of one of the pages that counts in one block, if there is one.
+    // Takes the change of one of the pages that counts in one block, if there is one. The marks are the caller's memory and
+    // the numbers and names the store's own, so they come apart.
     fn apply_block<R: Rack>(
         self,
         rack: &R,
@@ -132,8 +123,15 @@ impl Log {
         ensures offers { marks.new ≡ kept_all mark_upto marks.old (offered numbers.now self.pages self.drive block (record_of self.round (value_at (R.Rack.meaning rack.now) self.drive block))) }
         ensures names { named.new ≡ marked (page_named self.pages (record_of self.round (value_at (R.Rack.meaning rack.now) self.drive block))) named.old }
     {
-        if let Some(bytes) = self.read_counting(rack, block) {
-            self.take_change(&bytes, block, numbers, marks, named);
+        if let Some(bytes) = self.read_counting(rack, block)
+            && let Some(change) = read_change(&bytes, self.pages)
+        {
+            let place = Place {
+                drive: self.drive,
+                block,
+            };
+            apply_change(&change, place, numbers, marks);
+            name_page(named, change.page);
         }
     }
 

@@ -10,8 +10,9 @@ ghost use Rattle.change.specs.Changes.{ChangeOk, view};
 ghost use Rattle.model.specs.Logs.{stamped, spread};
 ghost use Rattle.logs.specs.Scans.{offers_of};
 
+use block::PAGE_BYTES;
 use change::{Change, Pair};
-use later::{Mark, Stamp, keep_later};
+use later::{Committed, Mark, Place, Stamp, keep_later};
 
 // Offers bytes to the places from `at` on, all with one stamp.
 fn apply_run(marks: &mut [Mark], at: usize, stamp: Stamp, bytes: &[u8])
@@ -28,44 +29,38 @@ fn apply_pairs(marks: &mut [Mark], start: usize, stamp: Stamp, pairs: &[Pair], b
     requires { (start ≤ 65535 * 240) × (total pairs.now ≤ length bytes.now) }
     ensures { marks.new ≡ kept_all mark_upto marks.old (spread stamp start pairs.now bytes.now) }
 {
-    let mut from = 0;
+    // as in `overlay`: an iterator of the runs would be longer than the two loops that cut them off
+    let mut rest = bytes;
     for pair in pairs {
-        let end = from + pair.length as usize;
-        apply_run(
-            marks,
-            start + pair.offset as usize,
-            stamp,
-            &bytes[from..end],
-        );
-        from = end;
+        let (run, after) = rest.split_at(pair.length as usize);
+        apply_run(marks, start + pair.offset as usize, stamp, run);
+        rest = after;
     }
 }
 
-// Offers the after bytes of a change whose set has a commit number, and else its before bytes. The change stands in this
-// block of this drive.
+// Offers the after bytes of a change whose set has a commit number, and else its before bytes.
 pub(crate) fn apply_change(
-    change: Change<'_>,
-    drive: u16,
-    block: u16,
+    change: &Change<'_>,
+    place: Place,
     numbers: &[u8; 256],
     marks: &mut [Mark],
 )
-    requires { ChangeOk (view change) }
-    ensures { marks.new ≡ kept_all mark_upto marks.old (offers_of numbers.now drive block (view change.entry)) }
+    requires { ChangeOk (view change.now) }
+    ensures { marks.new ≡ kept_all mark_upto marks.old (offers_of numbers.now place.drive place.block (view change.now)) }
 {
-    let start = change.page as usize * 240;
+    let start = change.page as usize * PAGE_BYTES;
+    // the numbers that recovery keeps are plain, and 0 says that a set has none
     let commit = numbers[change.set as usize];
-    if commit == 0 {
-        let stamp = Stamp::Before { drive, block };
-        apply_pairs(marks, start, stamp, change.pairs(), change.before);
+    let (stamp, bytes) = if commit == 0 {
+        (Stamp::Before(place), change.before)
     } else {
-        let stamp = Stamp::After {
+        let committed = Committed {
             commit,
             set: change.set,
             step: change.step,
-            drive,
-            block,
+            place,
         };
-        apply_pairs(marks, start, stamp, change.pairs(), change.after);
-    }
+        (Stamp::After(committed), change.after)
+    };
+    apply_pairs(marks, start, stamp, change.pairs(), bytes);
 }

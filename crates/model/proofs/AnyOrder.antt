@@ -27,7 +27,7 @@ offered_by : (l : Logs) (x : ℕ × Mark) (d : ℕ) (ds : List ℕ) → Among d 
 offered_by l x d [] p q = absurd p
 offered_by l x d (e ∷ ds) p q =
     ⊎_elim
-    (λ (s : d ≡ e). among_left x (offers_on l e) (all_offers l ds) (subst (λ (k : ℕ). Among x (offers_on l k)) s q))
+    (λ (s : d ≡ e). among_left x (offers_on l e) (all_offers l ds) (rw s at q))
     (λ r. among_right x (offers_on l e) (all_offers l ds) (offered_by l x d ds r q))
     p
 

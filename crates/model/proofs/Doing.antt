@@ -1,5 +1,5 @@
 -- What a call does, from the way in which its code ended: refused at once, played to the end, or out of strokes.
-use Rattle.std.proofs.Common.{◌≡◌, ℕ, zero, suc, ◌≤◌, true, leb, List, [], length, take, Some, None, refl}
+use Rattle.std.proofs.Common.{◌≡◌, ◌≤◌, true, leb, List, [], length, Some, None, refl, arith}
 use lib.Dec.{leb-zero}
 use Rattle.std.proofs.lemmas.List.{take_all}
 use Rattle.std.proofs.lemmas.Bool.{leb-true}
@@ -37,14 +37,9 @@ all_strokes plan m n p y =
     let h : length plan ≤ m.left = leb-true _ _ (enough_from (leb (length plan) m.left) d.answers) in
     (h, rw (take_all m.left plan h) at d.leaves)
 
-take_none : (k : ℕ) (m : Meaning) → Strokes (take k []) m m
-unfolding Strokes
-take_none zero m = refl
-take_none (suc k) m = refl
-
 -- a call without strokes that does not refuse
 pub does_still : (o : Outcome) (s : Store) (m : Meaning) (r : Reply) (t : Store) → o.fault ≡ None → o.plan ≡ [] → r ≡ o.reply → t ≡ o.good → Does o s m r t m
 unfolding Strokes
 does_still o s m r t e p q u =
     let none : leb (length o.plan) m.left ≡ true = rw p (leb-zero m.left) in
-    record { replies = rw (e, none) q; becomes = rw (e, none) u; leaves = rw (e, p) (take_none m.left m) }
+    record { replies = rw (e, none) q; becomes = rw (e, none) u; leaves = rw (e, p, take_all {A = Stroke} m.left [] (omega arith)) refl }

@@ -1,9 +1,9 @@
 -- Every stroke that ends a round has its place.
-use Rattle.std.proofs.Common.{◌≡◌, ℕ, zero, suc, ◌+◌, ◌<◌, ◌≤◌, Bool, true, false, cond, List, ◌∷◌, ◌++◌, length, arith}
-use Rattle.std.proofs.lemmas.Bool.{lt-ltb}
+use Rattle.std.proofs.Common.{◌≡◌, ℕ, zero, suc, ◌+◌, ◌<◌, ◌≤◌, Bool, List, ◌∷◌, ◌++◌, length, arith}
+use Rattle.std.proofs.lemmas.Bool.{lt-ltb, cond_both}
 use Rattle.rack.specs.Meaning.{Meaning}
-use Rattle.strokes.specs.declared.Stroke.TheVariants.{Write, Flush}
-use Rattle.strokes.specs.Plan.{placed, Placed}
+use Rattle.strokes.specs.declared.Stroke.TheVariants.{Flush}
+use Rattle.strokes.specs.Plan.{Placed}
 use Rattle.strokes.proofs.Exactly.{placed_append}
 use Rattle.block.specs.Pages.{page_block}
 use Rattle.block.proofs.HeadLaws.{length_head_block}
@@ -21,13 +21,9 @@ placed_flushes d (suc n) m h = (lt-ltb d m.count (omega arith), placed_flushes (
 placed_writes : (f : ℕ → Bool) (c : ℕ → List ℕ) (p n : ℕ) (m : Meaning) → ((q : ℕ) → q < p + n → length (c q) ≡ 240) → 0 < m.count → p + n < m.size 0 → Placed (page_writes f c p n) m
 unfolding page_writes Placed
 placed_writes f c p zero m l h g = tt
-placed_writes f c p (suc n) m l h g = chosen (f p)
-    (placed_write 0 (suc p) (page_block (c p)) m (length_page_block (c p) (l p (omega arith))) h (omega arith))
-    (placed_writes f c (suc p) n m (λ q k. l q (omega arith)) h (omega arith))
-  where
-    chosen : (t : Bool) → placed (Write 0 (suc p) (page_block (c p))) m ≡ true → Placed (page_writes f c (suc p) n) m → Placed (cond t (Write 0 (suc p) (page_block (c p)) ∷ page_writes f c (suc p) n) (page_writes f c (suc p) n)) m
-    chosen true w r = (w, r)
-    chosen false w r = r
+placed_writes f c p (suc n) m l h g =
+    let r = placed_writes f c (suc p) n m (λ q k. l q (omega arith)) h (omega arith) in
+    cond_both (f p) _ _ (λ xs. Placed xs m) (λ t. (placed_write 0 (suc p) (page_block (c p)) m (length_page_block (c p) (l p (omega arith))) h (omega arith), r)) (λ t. r)
 
 pub placed_end : (z : Shape) (ρ : ℕ) (f : ℕ → Bool) (c : ℕ → List ℕ) (m : Meaning) → m.count ≡ suc z.logs → z.pages < m.size 0 → ((p : ℕ) → p < z.pages → length (c p) ≡ 240) → Placed (round_end z ρ f c) m
 unfolding Placed

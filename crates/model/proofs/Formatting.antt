@@ -1,9 +1,9 @@
 -- What stands after all strokes of a format.
-use Rattle.std.proofs.Common.{◌≡◌, ℕ, zero, suc, ◌+◌, ◌-◌, ◌<◌, ◌≤◌, true, ◌&&◌, eqb, ltb, leb, List, [], ◌∷◌, ◌++◌, length, sym, refl, ◌∙◌, subst, ⊎_elim, arith}
+use Rattle.std.proofs.Common.{◌≡◌, ℕ, zero, suc, ◌+◌, ◌<◌, ◌≤◌, true, List, [], ◌∷◌, ◌++◌, length, refl, ◌∙◌, ⊎_elim, arith}
 use Rattle.std.proofs.lemmas.List.{length-append}
-use Rattle.std.proofs.lemmas.Bool.{eq-eqb, cases_eq, and_parts, and_from, leb-true, lt-ltb}
+use Rattle.std.proofs.lemmas.Bool.{eq-eqb, cases_eq, lt-ltb}
+use Rattle.std.proofs.lemmas.Bool.Decides.{nat_tests}
 use Rattle.rack.specs.Meaning.{Block, Meaning, Alike, Stands, newest}
-use Rattle.rack.proofs.Settling.{newest_written}
 use Rattle.strokes.specs.declared.Stroke.{Stroke}
 use Rattle.strokes.specs.declared.Stroke.TheVariants.{Write, Flush}
 use Rattle.strokes.specs.Plan.{Strokes, Placed, placed, run}
@@ -80,7 +80,7 @@ wipes_stand z d (suc n) m k h g y e b p q r =
     let j = w.0 in
     let h₁ = has_alike z m j (alike_strokes (wipe z.blocks d) m j w.1) h in
     ⊎_elim
-    (λ (x : e ≡ d). subst (λ (i : ℕ). Stands k i b (zeros 512)) (sym x) (wipe_stands z d n m j k h (omega arith) w.1 w.2 b (subst (λ (i : ℕ). b < z.blocks i) x r)))
+    (λ (x : e ≡ d). rw x (wipe_stands z d n m j k h (omega arith) w.1 w.2 b (rw x at r)))
     (λ (x : e ≡ d → ⊥). wipes_stand z (suc d) n j k h₁ (omega arith) w.2 e b (omega arith) (omega arith) r)
     (cases_eq e d)
 
@@ -152,15 +152,11 @@ module _ (z : Shape) (m n : Meaning) (has : Has z m) (room : z.pages < z.blocks 
       strokes_stand (headed (head_at z 1)) p.blanked n 0 (suc k) (page_block (zeros 240)) (omega arith) (omega arith) ((λ e x. omega arith), tt) p.heading stood
 
   formatted_head : Stands n 0 0 (head_at z 1)
-  unfolding Strokes
+  unfolding Elsewhere run
   formatted_head =
       let l = has_blanked.logs in
       let t = has_blanked.blocks 0 (omega arith) in
-      let y = p.heading in
-      let c = y.1.alike.count in
-      let s = y.1.alike.size 0 in
-      let read = newest_written p.blanked y.0 0 0 (head_at z 1) (omega arith) (omega arith) y.1 in
-      subst (λ (k : Meaning). Stands k 0 0 (head_at z 1)) (sym y.2.2) (flush_stands y.0 y.2.0 0 0 (head_at z 1) (omega arith) (omega arith) y.2.1 read)
+      run_stands 0 0 1 (head_at z 1) p.blanked n [] (omega arith) (omega arith) p.heading 0 (omega arith) (omega arith) tt
 
 pub formatted : (z : Shape) (m n : Meaning) → Has z m → z.pages < z.blocks 0 → length (format_plan z) ≤ m.left → Strokes (format_plan z) m n → Formatted z m n
 formatted z m n has room lasts y =
@@ -174,9 +170,7 @@ formatted z m n has room lasts y =
 
 -- every stroke of a format has its place
 pub placed_write : (d b : ℕ) (v : Block) (m : Meaning) → length v ≡ 512 → d < m.count → b < m.size d → placed (Write d b v) m ≡ true
-placed_write d b v m l h g =
-    and_from (eqb (length v) 512) (ltb d m.count && ltb b (m.size d)) (eq-eqb (length v) 512 l)
-    (and_from (ltb d m.count) (ltb b (m.size d)) (lt-ltb d m.count h) (lt-ltb b (m.size d) g))
+placed_write d b v m l h g = rw (eq-eqb (length v) 512 l, lt-ltb d m.count h, lt-ltb b (m.size d) g)
 
 pub placed_headed : (v : Block) (m : Meaning) → length v ≡ 512 → 0 < m.count → 0 < m.size 0 → Placed (headed v) m
 unfolding Placed
@@ -207,12 +201,8 @@ placed_format z m h room =
 
 -- a legal shape is on its rack, with room for its pages
 pub legal_has : (pages : ℕ) (m : Meaning) → legal (shape_of pages m) ≡ true → Has (shape_of pages m) m × (pages < (shape_of pages m).blocks 0) × (pages ≤ 64)
-legal_has pages m e =
-    let z = shape_of pages m in
-    let a = and_parts (leb 1 pages) _ e in
-    let b = and_parts (leb pages 64) _ a.1 in
-    let c = and_parts (leb (suc pages) (z.blocks 0)) _ b.1 in
-    let d = and_parts (leb 1 (m.count - 1)) _ c.1 in
-    let f = leb-true 1 (m.count - 1) d.0 in
-    let g = leb-true (suc pages) (z.blocks 0) c.0 in
-    (record { logs = omega arith; blocks = λ x p. rw (lt-ltb x m.count p) }, g, leb-true pages 64 b.0)
+legal_has pages m e = (
+  record { logs = grind (arith, nat_tests); blocks = λ x p. rw (lt-ltb x m.count p) },
+  grind (arith, nat_tests),
+  grind (arith, nat_tests),
+)

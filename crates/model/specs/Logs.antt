@@ -28,6 +28,7 @@ use Rattle.change.specs.declared.runs.Pair.{Pair}
 use Rattle.later.specs.declared.Stamp.{Stamp}
 use Rattle.later.specs.declared.Stamp.TheVariants.{Before, After}
 use Rattle.later.specs.declared.Mark.{Mark}
+use Rattle.later.specs.declared.Place.{Place}
 
 abbrev pub value_at : Meaning → ℕ → ℕ → Option Block
 value_at m d b = cond (within m d b) (newest (m.slot d b)) None
@@ -75,7 +76,9 @@ commits_from ρ m d b (suc n) = given (record_of ρ (value_at m d b)) ++ commits
 -- a set without a commit number has the number 0
 abbrev pub stamp_of : List ℕ → ℕ → ℕ → Content → Stamp
 stamp_of numbers d b v =
-    cond (slice_index numbers v.set == 0) (Before d b) (After (slice_index numbers v.set) v.set v.step d b)
+    let place : Place = record { drive = d; block = b } in
+    let commit = slice_index numbers v.set in
+    cond (commit == 0) (Before place) (After (record { commit = commit; set = v.set; step = v.step; place = place }))
 
 abbrev pub image_of : List ℕ → Content → List ℕ
 image_of numbers v = cond (slice_index numbers v.set == 0) v.before v.after

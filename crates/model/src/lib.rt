@@ -14,7 +14,7 @@ ghost use Rattle.model.specs.Refusals.{refusal_number};
 use rack::{Rack, RackFault};
 
 // Why the store turns a call down. The numbers are fixed.
-#[derive(Clone, Copy, Debug)]
+#[derive(Clone, Copy, PartialEq, Eq, Debug)]
 pub enum Refusal {
     // a stroke was refused for want of strokes, now or in an earlier call on this warm store
     OutOfStrokes,
@@ -52,8 +52,19 @@ pub enum Refusal {
     Rack(RackFault),
 }
 
+// What the rack refused, the store refuses for the same reason.
+impl From<RackFault> for Refusal {
+    ghost use Rattle.model.specs.declared.Refusal.{Refusal};
+
+    ghost from_gives = { λ fault result. result ≡ Refusal.Rack fault };
+
+    fn from(fault: RackFault) -> Refusal {
+        Self::Rack(fault)
+    }
+}
+
 impl Refusal {
-    // The refusal's number in the table.
+    // The refusal's number in the table. Numbers beside the cases would say the same, but no case may then hold a fault.
     pub fn number(self) -> u8
         ensures { result ≡ refusal_number self }
     {
@@ -84,8 +95,6 @@ pub fn read_block<R: Rack>(rack: &R, drive: u16, block: u16) -> Option<[u8; 512]
     ensures { result ≡ value_at (R.Rack.meaning rack.now) drive block }
 {
     let mut bytes = [0; 512];
-    match rack.read(drive, block, &mut bytes) {
-        Ok(()) => Some(bytes),
-        Err(_) => None,
-    }
+    rack.read(drive, block, &mut bytes).ok()?;
+    Some(bytes)
 }

@@ -5,20 +5,13 @@ use Rattle.logs.proofs.Log.apply.Goals as goal
 
 pub loop-block-preserved : goal.loop-block-preserved
 loop-block-preserved g c =
-    let m = g.R.Rack.meaning c.args.rack.now in
-    let log = c.args.self in
-    let b = c.loop-block.block in
     let told = c.apply_block.ensures in (
-      scan_more (keeping mark_upto) (offers_gather c.args.numbers.now log.pages log.round m log.drive) c.loop-block.marks c.apply_block.new.marks b log.blocks c.loop-block-test.true told.offers ∙ c.loop-block.invariant.0,
-      scan_more marking (names_gather log.pages log.round m log.drive) c.loop-block.named c.apply_block.new.named b log.blocks c.loop-block-test.true told.names ∙ c.loop-block.invariant.1,
+      scan_more (keeping mark_upto) (offers_gather _ _ _ _ _) _ _ _ _ c.loop-block-test.true told.offers ∙ c.loop-block.invariant.0,
+      scan_more marking (names_gather _ _ _ _) _ _ _ _ c.loop-block-test.true told.names ∙ c.loop-block.invariant.1,
     )
 
 pub returns : goal.returns
-returns g c =
-    let m = g.R.Rack.meaning c.args.rack.now in
-    let log = c.args.self in
-    let b = c.loop-block.block in
-    record {
-      marks = sym (scan_all (keeping mark_upto) (offers_gather c.args.numbers.now log.pages log.round m log.drive) c.loop-block.marks b log.blocks c.loop-block-test.false) ∙ c.loop-block.invariant.0;
-      named = sym (scan_all marking (names_gather log.pages log.round m log.drive) c.loop-block.named b log.blocks c.loop-block-test.false) ∙ c.loop-block.invariant.1;
-    }
+returns g c = record {
+  marks = sym (scan_all (keeping mark_upto) (offers_gather _ _ _ _ _) _ _ _ c.loop-block-test.false) ∙ c.loop-block.invariant.0;
+  named = sym (scan_all marking (names_gather _ _ _ _) _ _ _ c.loop-block-test.false) ∙ c.loop-block.invariant.1;
+}

@@ -1,4 +1,4 @@
-use Rattle.std.proofs.Common.{◌≡◌, ◌+◌, ◌≤◌, length, drop}
+use Rattle.std.proofs.Common.{◌≡◌, ◌≤◌, length, drop}
 use Rattle.change.specs.Pairs.{total}
 use Rattle.later.specs.Keeping.{kept_all}
 use Rattle.later.specs.Stamps.{mark_upto}
@@ -8,5 +8,5 @@ use Rattle.logs.proofs.offers.apply_pairs.Given as goal
 -- the bytes last for the pairs that are left, and these give what all gave at first
 abbrev pub invariant-loop-pair : goal.invariant-loop-pair
 invariant-loop-pair l =
-    (l.from + total (drop l.pair-index l.pairs) ≤ length l.bytes) ×
-    (kept_all mark_upto l.marks (spread l.stamp l.start (drop l.pair-index l.pairs) (drop l.from l.bytes)) ≡ kept_all mark_upto l.initial.marks (spread l.stamp l.start l.pairs l.bytes))
+    (total (drop l.pair-index l.pairs) ≤ length l.rest) ×
+    (kept_all mark_upto l.marks (spread l.stamp l.start (drop l.pair-index l.pairs) l.rest) ≡ kept_all mark_upto l.initial.marks (spread l.stamp l.start l.pairs l.bytes))
