@@ -26,10 +26,6 @@ impl Frame {
     pub fn blocks(&self, drive: u16) -> u16
         ensures { result ≡ (shape_in self.now).blocks drive }
     {
-        if drive < 9 {
-            self.sizes[drive as usize]
-        } else {
-            0
-        }
+        self.sizes.get(drive as usize).copied().unwrap_or(0)
     }
 }

@@ -1,3 +1,1 @@
-pub mod Front
-pub mod Placing
-pub mod Ends
+pub mod Numbers

@@ -1,31 +1,120 @@
 // The open sets of a warm store, in the order in which they were begun.
 //
-// There are at most 8, kept at the front of an array, with a count. A set that ends leaves no gap: those behind it move
-// up, so the front is the list of open sets at any time, and each call is promised by that list. No call asks anything
-// of its caller: a ninth set is not added, and a number that is not open names no set. The calls stand in modules of
-// their own, since a definition that names the struct cannot be cited in the file that declares it. No store uses this
-// crate yet: it is for the calls begin, change, read and commit.
+// There are at most 8, in a vector of that capacity, which lies in the value itself. Each call is promised by the list
+// of open sets. No call asks anything of its caller: a ninth set is not added, and a number that is not open names no
+// set.
 #![tactic(auto)]
 
-ghost use Rattle.std.specs.Prelude.{◌≡◌, ◌≤◌, length};
+ghost use Rattle.std.specs.Prelude.{◌≡◌, ◌==◌, position, ◌<◌, ◌≤◌, ◌⊎◌, [], ◌∷◌, ◌++◌, length, if◌then◌else◌, Some, None};
+ghost use Rattle.std.specs.Option.{option_map};
+ghost use Rattle.model.specs.Sets.{is_open, set_of, without, stepped, stepping};
+ghost use Rattle.model.specs.Warming.{new_set};
 
+use arrayvec::ArrayVec;
 use drive_set::DriveSet;
 
-mod changing;
-mod finding;
-
 // An open set: its number, its last step, and the log drives that hold a record of it.
-#[derive(Clone, Copy)]
+#[derive(Clone, Copy, PartialEq, Eq, Default, Debug)]
 pub struct OpenSet {
     pub number: u8,
     pub steps: u32,
     pub uses: DriveSet,
 }
 
-// The first `count` are the open sets; what stands behind them does not count.
-#[derive(Clone, Copy)]
+// The open sets.
+#[derive(Drop)]
 pub struct OpenSets {
-    sets: [OpenSet; 8],
-    count: u8,
-    ghost ok: { (count ≤ 8) × (length sets ≡ 8) },
+    sets: ArrayVec<OpenSet, 8>,
+}
+
+impl OpenSet {
+    ghost use Rattle.open_sets.specs.Views.{set_in};
+
+    // A set that has made no step.
+    fn new(number: u8) -> OpenSet
+        ensures { set_in result ≡ new_set number }
+    {
+        OpenSet {
+            number,
+            steps: 0,
+            uses: DriveSet::empty(),
+        }
+    }
+
+    // The set has one step more, whose record is on the log drive. A drive that a set of drives cannot hold, or a step
+    // that cannot be numbered, changes nothing.
+    fn take_step(&mut self, drive: u16)
+        ensures steps { drive < 16 → self.old.steps < 4294967295 → set_in self.new ≡ stepped drive (set_in self.old) }
+        ensures rests { (16 ≤ drive) ⊎ (4294967295 ≤ self.old.steps) → self.new ≡ self.old }
+    {
+        if drive < 16 && self.steps < u32::MAX {
+            self.steps += 1;
+            self.uses = self.uses.with(drive);
+        }
+    }
+}
+
+// Where the first set of a number stands. It takes a slice, since the check follows a chain from a slice and not from
+// the vector.
+fn place(sets: &[OpenSet], number: u16) -> Option<usize>
+    ensures { result ≡ position (λ set. set.number == number) sets.now }
+{
+    sets.iter().position(|set| u16::from(set.number) == number)
+}
+
+impl OpenSets {
+    ghost use Rattle.open_sets.specs.Views.{set_in, sets_in};
+
+    // No set is open.
+    pub fn none() -> OpenSets
+        ensures { sets_in result ≡ [] }
+    {
+        OpenSets {
+            sets: ArrayVec::new(),
+        }
+    }
+
+    // How many sets are open.
+    pub fn len(&self) -> u8
+        ensures value { result ≡ length (sets_in self.now) }
+        ensures most { result ≤ 8 }
+    {
+        self.sets.len() as u8
+    }
+
+    // The open set of a number, if there is one.
+    pub fn find(&self, number: u16) -> Option<OpenSet>
+        ensures { option_map set_in result ≡ (if is_open (sets_in self.now) number then Some (set_of (sets_in self.now) number) else None) }
+    {
+        let i = place(&self.sets, number)?;
+        Some(self.sets[i])
+    }
+
+    // Opens a set of this number, behind the others; where 8 are open, it changes nothing.
+    pub fn add(&mut self, number: u8)
+        ensures adds { length (sets_in self.old) < 8 → sets_in self.new ≡ sets_in self.old ++ (new_set number ∷ []) }
+        ensures full { 8 ≤ length (sets_in self.old) → self.new ≡ self.old }
+    {
+        if !self.sets.is_full() {
+            self.sets.push(OpenSet::new(number));
+        }
+    }
+
+    // The open set of this number has one step more, whose record is on the log drive. Where no set of this number is
+    // open, nothing changes; nor does it for a drive from 16 on, or past the last step that can be numbered.
+    pub fn step(&mut self, number: u8, drive: u16)
+        ensures steps { drive < 16 → (set_of (sets_in self.old) number).steps < 4294967295 → sets_in self.new ≡ stepping (sets_in self.old) number drive }
+        ensures rests { (16 ≤ drive) ⊎ (4294967295 ≤ (set_of (sets_in self.old) number).steps) → sets_in self.new ≡ sets_in self.old }
+    {
+        if let Some(i) = place(&self.sets, u16::from(number)) {
+            self.sets[i].take_step(drive);
+        }
+    }
+
+    // Ends the set of this number; where none is open, nothing changes.
+    pub fn end(&mut self, number: u8)
+        ensures { sets_in self.new ≡ without (sets_in self.old) number }
+    {
+        self.sets.retain(|set| set.number != number);
+    }
 }

@@ -3,27 +3,26 @@
 // A page has what is committed and what the set that holds it has made of it. A change puts its bytes into the working
 // content and records the committed bytes that they replace: were the before bytes taken from the working content, a
 // set that is not committed could not be undone. Only a commit makes a working content the committed one.
-//
-// No store uses this crate yet: it is for the calls begin, change, read and commit. Today's warm store has its pages
-// in the crate `table`.
 #![tactic(auto)]
 
-ghost use Rattle.std.specs.Prelude.{◌≡◌, ℕ, ◌<◌, map, length, if◌then◌else◌};
+ghost use Rattle.std.specs.Prelude.{◌≡◌, ℕ, ◌<◌, ◌==◌, ◌&&◌, not, map, length, if◌then◌else◌};
 ghost use Rattle.change.specs.Pairs.{covering};
 ghost use Rattle.change.specs.Changes.{Writes};
 ghost use Rattle.model.specs.Rounds.{rest_page};
 ghost use Rattle.model.specs.Warming.{held_by_other, changed, shown, committed_by};
-ghost use Rattle.pages.specs.Pages.{page_in, committed_in, record_for, released, at_rest};
+ghost use Rattle.pages.specs.Pages.{holder_in, page_in, committed_in, record_for, released, at_rest};
 
+use block::PAGE_BYTES;
 use change::{Change, Pair, Pairs, covers, gather, overlay};
+use std::num::NonZeroU8;
 
-// A page: what is committed, what its holder made of it, the set that holds it (0: none), and whether a record
-// names it in this round.
+// A page: what is committed, what its holder made of it, the set that holds it, and whether a record names it in this
+// round. No set has the number 0, so a page that nobody holds has no holder.
 #[derive(Clone, Copy)]
 pub struct Page {
-    pub committed: [u8; 240],
-    pub working: [u8; 240],
-    pub holder: u8,
+    pub committed: [u8; PAGE_BYTES],
+    pub working: [u8; PAGE_BYTES],
+    pub holder: Option<NonZeroU8>,
     pub touched: bool,
 }
 
@@ -38,30 +37,38 @@ pub struct Entry {
 
 impl Page {
     // A page with this content that nobody holds and no record names.
-    pub fn resting(content: [u8; 240]) -> Page
+    pub fn resting(content: [u8; PAGE_BYTES]) -> Page
         ensures { page_in result ≡ rest_page content }
     {
         Page {
             committed: content,
             working: content,
-            holder: 0,
+            holder: None,
             touched: false,
         }
+    }
+
+    // Whether this set holds the page. Here and below a set is the number that a caller of the store gives, 0 for a reader
+    // that is no set and holds nothing; so it is no Option.
+    fn is_held_by(&self, set: u16) -> bool
+        ensures { result ≡ (not (set == 0) && holder_in self.now.holder == set) }
+    {
+        self.holder
+            .is_some_and(|holder| u16::from(holder.get()) == set)
     }
 
     // Whether another set holds the page.
     pub fn is_held_by_other(&self, set: u16) -> bool
         ensures { result ≡ held_by_other set (page_in self.now) }
     {
-        self.holder != 0 && u16::from(self.holder) != set
+        self.holder.is_some() && !self.is_held_by(set)
     }
 
-    // What a set reads of the page, or a reader that is no set (0).
-    pub fn content_for(&self, set: u16) -> &[u8]
-        ensures value { result.now ≡ shown set (page_in self.now) }
-        ensures len { length result.now ≡ 240 }
+    // What a set reads of the page, or a reader that is no set.
+    pub fn content_for(&self, set: u16) -> &[u8; PAGE_BYTES]
+        ensures { result.now ≡ shown set (page_in self.now) }
     {
-        if set != 0 && u16::from(self.holder) == set {
+        if self.is_held_by(set) {
             &self.working
         } else {
             &self.committed
@@ -72,21 +79,16 @@ impl Page {
     pub fn record(&self, entry: Entry, pairs: &[Pair], bytes: &[u8]) -> Option<[u8; 512]>
         ensures { Writes (record_for entry pairs.now self.now.committed bytes.now) result }
     {
-        if !covers(pairs, bytes.len()) {
-            return None;
-        }
-        let Some(held) = Pairs::new(pairs) else {
-            return None;
-        };
-        let mut before = [0; 240];
-        let n = gather(pairs, &self.committed, &mut before);
+        let held = Pairs::new(pairs)?;
+        let mut joined = [0; PAGE_BYTES];
+        let before = gather(pairs, &self.committed, &mut joined);
         Change {
             page: entry.page,
             round: entry.round,
             set: entry.set,
             step: entry.step,
             pairs: held,
-            before: &before[0..n],
+            before,
             after: bytes,
         }
         .block()
@@ -99,7 +101,7 @@ impl Page {
     {
         if covers(pairs, bytes.len()) {
             overlay(pairs, bytes, &mut self.working);
-            self.holder = set;
+            self.holder = NonZeroU8::new(set);
             self.touched = true;
         }
     }
@@ -108,9 +110,9 @@ impl Page {
     fn commit(&mut self, set: u8)
         ensures { self.new ≡ released set self.old }
     {
-        if self.holder == set {
+        if self.holder == NonZeroU8::new(set) {
             self.committed = self.working;
-            self.holder = 0;
+            self.holder = None;
         }
     }
 
@@ -120,7 +122,7 @@ impl Page {
         ensures sized { length self.old.committed ≡ 240 }
     {
         self.working = self.committed;
-        self.holder = 0;
+        self.holder = None;
         self.touched = false;
     }
 }
@@ -129,25 +131,17 @@ impl Page {
 pub fn commit_pages(pages: &mut [Page], set: u8)
     ensures { pages.new ≡ map (released set) pages.old }
 {
-    for page in pages.iter_mut() {
+    for page in pages {
         page.commit(set);
     }
 }
 
-// Leaves nothing but what is committed, in each page.
-fn rest_each(pages: &mut [Page])
+// Leaves nothing but what is committed, in each page: nothing is held or touched at the start of a round.
+pub fn rest_pages(pages: &mut [Page])
     ensures each { pages.new ≡ map at_rest pages.old }
     ensures sized { (p : ℕ) → p < length pages.old → length (committed_in pages.old p) ≡ 240 }
 {
-    for page in pages.iter_mut() {
+    for page in pages {
         page.rest();
     }
-}
-
-// The same for a table of pages: nothing is held or touched at the start of a round.
-pub fn rest_pages(pages: &mut [Page; 64])
-    ensures each { pages.new ≡ map at_rest pages.old }
-    ensures sized { (p : ℕ) → p < 64 → length (committed_in pages.old p) ≡ 240 }
-{
-    rest_each(pages);
 }

@@ -12,8 +12,9 @@ use Rattle.strokes.specs.Plan.{Plays}
 use Rattle.strokes.proofs.Playing.{Onto, onto_none, stroke_made, stroke_refused, part_made, part_refused, last_part}
 use Rattle.model.specs.Format.{head_at, headed}
 use Rattle.model.specs.Rounds.{flushes, page_writes, round_end, rest_page}
-use Rattle.table.specs.declared.Page.{Page}
-use Rattle.table.specs.Pages.{no_page, page_in, committed_in, contents_in, is_chosen}
+use Rattle.pages.specs.declared.Page.{Page}
+use Rattle.pages.specs.Pages.{no_page, page_in, committed_in, contents_in}
+use Rattle.table.specs.Pages.{is_chosen}
 use Rattle.table.specs.Heads.{head_shape}
 use Rattle.table.proofs.Writing.{writes_same}
 

@@ -1,4 +1,5 @@
+pub mod Finding
+pub mod Turning
 pub mod Writing
 pub mod Raising
 pub mod Ending
-pub mod Finding

@@ -12,4 +12,4 @@ head_shape h = record { pages = h.pages; logs = h.logs; blocks = λ d. 0 }
 
 -- a round has four bytes, and the block of a head has no more of it, so that this is the next head at every round
 abbrev pub next_head : Head → Head
-next_head h = record { pages = h.pages; round = (h.round + 1) % 2 ^ 32; logs = h.logs }
+next_head h = record h { round = (h.round + 1) % 2 ^ 32 }

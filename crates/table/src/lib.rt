@@ -13,67 +13,54 @@ ghost use Rattle.strokes.specs.Plan.{effect, fault, Plays};
 ghost use Rattle.block.specs.Pages.{page_block};
 ghost use Rattle.model.specs.Format.{head_at, headed};
 ghost use Rattle.model.specs.Rounds.{flushes, page_writes, round_end, rest_page, found_page};
-ghost use Rattle.table.specs.Pages.{no_page, page_in, pages_in, committed_in, contents_in, is_chosen};
+ghost use Rattle.pages.specs.Pages.{no_page, page_in, pages_in, committed_in, contents_in};
+ghost use Rattle.table.specs.Pages.{is_chosen};
 ghost use Rattle.table.specs.Found.{mark_bytes, page_bytes, table_bytes};
 ghost use Rattle.table.specs.Heads.{head_shape, next_head};
 
-use block::{Head, page_block};
+use block::{Head, PAGE_BYTES, page_block};
 use later::Mark;
+use pages::Page;
 use rack::{Rack, RackFault};
+use std::array;
 use strokes::settle_run;
 
-// A page: what is committed, what its holder made of it, the set that holds it (0: none), and whether a record
-// names it in this round.
-#[derive(Clone, Copy)]
-pub struct Page {
-    pub committed: [u8; 240],
-    pub working: [u8; 240],
-    pub holder: u8,
-    pub touched: bool,
-}
-
-// A page with this content that nobody holds and no record names.
-fn resting(content: [u8; 240]) -> Page
-    ensures { page_in result ≡ rest_page content }
-{
-    Page {
-        committed: content,
-        working: content,
-        holder: 0,
-        touched: false,
-    }
-}
+// How many pages a table has: as many as a store can have.
+const PAGES: usize = 64;
 
 // The byte of the mark at a place, 0 where there is no mark.
 fn byte_at(marks: &[Mark], at: usize) -> u8
     ensures { result ≡ slice_index (mark_bytes marks.now) at }
 {
-    if at < marks.len() { marks[at].byte } else { 0 }
+    marks.get(at).map_or(0, |mark| mark.byte)
 }
 
 // The bytes of a page among the marks, zero from where the marks end on.
-fn page_bytes(marks: &[Mark], page: u16) -> [u8; 240]
+fn page_bytes(marks: &[Mark], page: u16) -> [u8; PAGE_BYTES]
     ensures { result ≡ page_bytes marks.now page }
 {
-    let first = page as usize * 240;
-    let mut bytes = [0; 240];
-    for i in 0..240 {
-        bytes[i] = byte_at(marks, first + i);
+    let first = page as usize * PAGE_BYTES;
+    array::from_fn(|i| byte_at(marks, first + i))
+}
+
+// The bytes in the table for a page: zeros for a page that the store does not have.
+#[tactic(auto, unfolding(block::specs::Bytes::zeros))]
+fn table_bytes(marks: &[Mark], pages: u16, page: u16) -> [u8; PAGE_BYTES]
+    ensures { result ≡ table_bytes pages marks.now page }
+{
+    if page < pages {
+        page_bytes(marks, page)
+    } else {
+        [0; PAGE_BYTES]
     }
-    bytes
 }
 
 // The pages that recovery found, by its marks: one for each byte of a page, those of page p from place p * 240 on.
-// The pages that the store does not have are zero.
-pub fn found_pages(marks: &[Mark], pages: u16) -> [Page; 64]
+pub fn found_pages(marks: &[Mark], pages: u16) -> [Page; PAGES]
     ensures each { (p : ℕ) → p < 64 → page_in (slice_index_or result p no_page) ≡ rest_page (table_bytes pages marks.now p) }
     ensures found { pages ≤ 64 → length marks.now ≡ pages * 240 → (p : ℕ) → pages_in pages result p ≡ rest_page (found_page pages marks.now p) }
 {
-    let mut table = [resting([0; 240]); 64];
-    for page in 0..pages.min(64) {
-        table[page as usize] = resting(page_bytes(marks, page));
-    }
-    table
+    array::from_fn(|page| Page::resting(table_bytes(marks, pages, page as u16)))
 }
 
 // Flushes the log drives, 1 to `logs`.
@@ -87,7 +74,7 @@ fn flush_logs<R: Rack>(rack: &mut R, logs: u16) -> Result<(), RackFault>
 }
 
 // Writes a page's block with this content.
-fn put_page<R: Rack>(rack: &mut R, page: u16, content: &[u8; 240]) -> Result<(), RackFault>
+fn put_page<R: Rack>(rack: &mut R, page: u16, content: &[u8; PAGE_BYTES]) -> Result<(), RackFault>
     requires { page < 64 }
     ensures answers { result ≡ answer (fault (Write 0 (suc page) (page_block content.now)) (R.Rack.meaning rack.old)) }
     ensures leaves { Leaves result (effect (Write 0 (suc page) (page_block content.now)) (R.Rack.meaning rack.old)) (R.Rack.meaning rack.old) (R.Rack.meaning rack.new) }
@@ -95,34 +82,19 @@ fn put_page<R: Rack>(rack: &mut R, page: u16, content: &[u8; 240]) -> Result<(),
     rack.write(0, page + 1, &page_block(content))
 }
 
-// Writes what is committed in a page, if the page is chosen.
-fn write_page<R: Rack>(
-    rack: &mut R,
-    page: u16,
-    chosen: &[bool; 64],
-    table: &[Page; 64],
-) -> Result<(), RackFault>
-    ensures { Plays (page_writes (is_chosen chosen.now) (committed_in table.now) page 1) (R.Rack.meaning rack.old) (result_err result) (R.Rack.meaning rack.new) }
-{
-    let i = page as usize;
-    if i < 64 && chosen[i] {
-        put_page(rack, page, &table[i].committed)
-    } else {
-        Ok(())
-    }
-}
-
-// The same for each of the first so many pages, rising.
+// Writes what is committed in the chosen ones of the first so many pages, rising.
 fn write_chosen<R: Rack>(
     rack: &mut R,
     pages: u16,
-    chosen: &[bool; 64],
-    table: &[Page; 64],
+    chosen: &[bool; PAGES],
+    table: &[Page; PAGES],
 ) -> Result<(), RackFault>
     ensures { Plays (page_writes (is_chosen chosen.now) (committed_in table.now) 0 pages) (R.Rack.meaning rack.old) (result_err result) (R.Rack.meaning rack.new) }
 {
-    for page in 0..pages {
-        write_page(rack, page, chosen, table)?;
+    for (page, (is_chosen, content)) in (0..pages).zip(chosen.iter().zip(table)) {
+        if *is_chosen {
+            put_page(rack, page, &content.committed)?;
+        }
     }
     Ok(())
 }
@@ -132,9 +104,8 @@ fn next_head(head: Head) -> Head
     ensures { result ≡ next_head head }
 {
     Head {
-        pages: head.pages,
         round: head.round.wrapping_add(1),
-        logs: head.logs,
+        ..head
     }
 }
 
@@ -142,17 +113,18 @@ fn next_head(head: Head) -> Head
 fn raise_head<R: Rack>(rack: &mut R, head: Head) -> Result<(), RackFault>
     ensures { Plays (headed (head_at (head_shape head) (suc head.round))) (R.Rack.meaning rack.old) (result_err result) (R.Rack.meaning rack.new) }
 {
-    settle_run(rack, 0, 0, 1, &next_head(head).block())
+    settle_run(rack, 0, 0..1, &next_head(head).block())
 }
 
 // Ends the round that the head names: settles the logs, writes what is committed in the chosen ones of the store's
 // pages, rising, settles that, and raises the head. It is for a round that is not the last, 4,294,967,295: no number
 // of four bytes comes after that, and the block of the head would be that of round 0, which reads as no head.
+// The flags and the table are made apart, in recovery, so they stay two arrays; one zip goes over both.
 pub fn end_round<R: Rack>(
     rack: &mut R,
     head: Head,
-    chosen: &[bool; 64],
-    table: &[Page; 64],
+    chosen: &[bool; PAGES],
+    table: &[Page; PAGES],
 ) -> Result<(), RackFault>
     ensures { Plays (round_end (head_shape head) head.round (is_chosen chosen.now) (contents_in head.pages table.now)) (R.Rack.meaning rack.old) (result_err result) (R.Rack.meaning rack.new) }
 {

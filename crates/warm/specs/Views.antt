@@ -1,31 +1,27 @@
 -- The warm store of the code, as the model has it.
 --
---   set_in s            the open set s
 --   warm_in w           the warm store w
 --   fresh_warm f ρ t    the warm store on the frame f at the start of the round ρ, with the pages of the table t
-use Rattle.std.specs.Prelude.{List, [], map, false, ℕ, take, slice_index}
-use Rattle.drive_set.specs.Sets.{holds}
+use Rattle.std.specs.Prelude.{List, [], false, ℕ}
 use Rattle.frame.specs.declared.Frame.{Frame}
 use Rattle.frame.specs.Frames.{shape_in}
-use Rattle.table.specs.declared.Page.{Page}
-use Rattle.table.specs.Pages.{pages_in}
+use Rattle.pages.specs.declared.Page.{Page}
+use Rattle.pages.specs.Pages.{pages_in}
+use Rattle.log_space.specs.Views.{used_in}
+use Rattle.open_sets.specs.Views.{sets_in}
 use Rattle.model.specs.Store as store
-use Rattle.warm.specs.declared.OpenSet.{OpenSet}
 use Rattle.warm.specs.declared.Warm.{Warm}
-
-abbrev pub set_in : OpenSet → store.OpenSet
-set_in s = record { number = s.number; steps = s.steps; uses = holds s.uses }
 
 abbrev pub warm_in : Warm → store.Warm
 warm_in w = record {
-  shape = shape_in w.frame;
+  shape = shape_in w.space.frame;
   round = w.round;
-  page = pages_in w.frame.pages w.pages;
-  filled = λ d. slice_index w.filled d;
-  turn = w.turn;
+  page = pages_in w.space.frame.pages w.pages;
+  filled = used_in w.space;
+  turn = w.space.turn;
   begun = w.begun;
   commits = w.commits;
-  sets = map set_in (take w.«open» w.sets);
+  sets = sets_in w.sets;
   spoilt = w.spoilt;
 }
 

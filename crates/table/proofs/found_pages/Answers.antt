@@ -1,24 +1,16 @@
-use Rattle.std.proofs.Common.{◌<◌, length, refl, ap, ◌∙◌, arith}
-use Rattle.std.proofs.lemmas.List.{length-set}
-use Rattle.block.specs.Bytes.{zeros}
+use Rattle.std.proofs.Common.{rules, ◌≡◌, ℕ}
 use Rattle.model.specs.Rounds.{rest_page}
-use Rattle.table.proofs.Finding.{filled_none, filled_more, filled_all, found_from_filled}
+use Rattle.pages.specs.declared.Page.{Page}
+use Rattle.pages.specs.Pages.{no_page, page_in}
+use Rattle.table.specs.Found.{table_bytes}
+use Rattle.block.proofs.FromFn.{from_fn_each}
+use Rattle.table.proofs.Finding.{pages_found}
 use Rattle.table.proofs.found_pages.Goals as goal
-
-pub loop-page-init : goal.loop-page-init
-unfolding zeros
-loop-page-init c = (refl, filled_none c.args.marks.now c.resting-table.result c.resting-table.ensures)
-
-pub loop-page-preserved : goal.loop-page-preserved
-loop-page-preserved c =
-    let t = c.loop-page.table in
-    let n = c.loop-page.page in
-    let h : n < length t = omega arith in (
-      length-set t n c.resting.result ∙ c.loop-page.invariant.0,
-      filled_more c.args.marks.now n t c.resting.result h c.loop-page.invariant.1 (c.resting.ensures ∙ ap rest_page c.page_bytes.ensures),
-    )
 
 pub returns : goal.returns
 returns c =
-    let filled = filled_all c.args.marks.now c.args.pages c.loop-page.page c.loop-page.table (omega arith) c.loop-page.invariant.1 in
-    record { each = filled; found = found_from_filled c.args.marks.now c.args.pages c.loop-page.table filled }
+    let ks = c.args.marks.now in
+    let n = c.args.pages in
+    let made = c.from_fn.ensures.items in
+    let each = λ (p : ℕ). from_fn_each _ _ (λ (i : ℕ) (page : Page). page_in page ≡ rest_page (table_bytes n ks i)) c.from_fn.result 64 (λ i page q below called. search rules) made.each p no_page in
+    record { each = each; found = pages_found ks n c.from_fn.result each }

@@ -1,10 +1,13 @@
-use Rattle.table.proofs.Finding.{copied_more, copied_all}
+use Rattle.std.proofs.Common.{rules, ◌≡◌, ℕ, ◌+◌, ◌*◌, get_or}
+use Rattle.table.specs.Found.{mark_bytes}
+use Rattle.block.proofs.FromFn.{from_fn_each}
+use Rattle.table.proofs.Finding.{bytes_made}
 use Rattle.table.proofs.page_bytes.Goals as goal
 
-pub loop-i-preserved : goal.loop-i-preserved
-loop-i-preserved c =
-    copied_more c.args.marks.now c.args.page c.loop-i.i c.byte_at.result c.loop-i.bytes
-    c.loop-i-test.true c.loop-i.invariant c.byte_at.ensures
-
 pub returns : goal.returns
-returns c = copied_all c.args.marks.now c.args.page c.loop-i.i c.loop-i.bytes c.loop-i-test.false c.loop-i.invariant
+returns c =
+    let ks = c.args.marks.now in
+    let p = c.args.page in
+    let made = c.from_fn.ensures.items in
+    bytes_made ks p c.from_fn.result made.long (λ k h.
+    from_fn_each _ _ (λ (i byte : ℕ). byte ≡ get_or (mark_bytes ks) (p * 240 + i) 0) c.from_fn.result 240 (λ i byte q below called. search rules) made.each k 0 h)

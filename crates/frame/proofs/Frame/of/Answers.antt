@@ -1,9 +1,15 @@
-use Rattle.std.proofs.Common.{true, false}
-use Rattle.frame.proofs.Legal.{legal_same}
+use Rattle.std.proofs.Common.{◌≡◌, ◌-◌, sym, ◌∙◌, arith}
+use Rattle.frame.specs.Shapes.{shape_with}
+use Rattle.frame.proofs.Legal.{legal_facts}
+use Rattle.frame.proofs.Fitting.{same_shape, same_legal}
 use Rattle.frame.proofs.Frame.of.Goals as goal
 
-pub returns-then-is_legal : goal.returns-then-is_legal
-returns-then-is_legal g c = (legal_same true c.read-frame.ensures c.if-is_legal.ensures, c.read-frame.ensures)
-
-pub returns-else-is_legal : goal.returns-else-is_legal
-returns-else-is_legal g c = legal_same false c.read-frame.ensures c.if-is_legal.ensures
+pub returns : goal.returns
+returns g c =
+    let m = g.R.Rack.meaning c.args.rack.now in
+    let a = c.sizes_of-sizes in
+    let logs : c.in_ok-logs.logs ≡ m.count - 1 = omega (arith, c.drives.ensures, c.in_ok-logs.ensures.1) in
+    let facts = legal_facts (shape_with c.args.pages c.in_ok-logs.logs a.result) (sym c.if-not-is_legal.ensures) in (
+      sym (c.if-not-is_legal.ensures ∙ same_legal m a.result a.ensures.len a.ensures.each c.args.pages c.in_ok-logs.logs logs),
+      same_shape m a.result a.ensures.len a.ensures.each c.args.pages c.in_ok-logs.logs logs facts.few_logs,
+    )
