@@ -1,52 +1,46 @@
 -- What finish does, from how the strokes that end the round were played.
-use Rattle.std.proofs.Common.{◌≡◌, ℕ, suc, ◌+◌, ◌*◌, ◌<◌, Bool, true, false, cond, not, eqb, leb, List, [], map, length, take, drop, Some, None, Option, sym, ap, ◌∙◌, subst, add-one, arith}
+use Rattle.std.proofs.Common.{◌≡◌, ℕ, suc, ◌+◌, ◌*◌, ◌<◌, true, false, not, eqb, leb, List, [], length, take, drop, Some, None, Ok, Option, sym, ap, ◌∙◌, subst, add-one, arith}
 use Rattle.std.proofs.lemmas.List.{length-map, length-take, length-drop}
 use Rattle.std.proofs.lemmas.Bool.{eqb-true, not-false, lt-ltb}
 use Rattle.rack.specs.declared.RackFault.{RackFault}
 use Rattle.rack.specs.declared.RackFault.TheVariants.{NoPlace}
+use Rattle.rack.specs.Answers.{answer}
 use Rattle.rack.specs.Meaning.{Meaning}
 use Rattle.strokes.specs.Plan.{Plays, Placed}
 use Rattle.later.specs.declared.Mark.{Mark}
-use Rattle.table.specs.declared.Page.{Page}
-use Rattle.table.specs.Pages.{pages_in, contents_in}
-use Rattle.model.specs.declared.Refusal.{Refusal}
+use Rattle.pages.specs.declared.Page.{Page}
+use Rattle.pages.specs.Pages.{pages_in, contents_in}
 use Rattle.model.specs.declared.Refusal.TheVariants.{OutOfStrokes, BadLog, BadLength, LastRound, Rack}
 use Rattle.model.specs.Store.{Warm, Applying, cold, applying, warm, fits, legal}
 use Rattle.model.specs.Outcome.{refused, numbers, Does}
 use Rattle.model.specs.Recovery.{when, untaken, committed}
 use Rattle.model.specs.Rounds.{round_end, rest_page, rested, found_page, is_named, finish_fault, finishing}
-use Rattle.model.proofs.Doing.{does_refused, does_all, does_short}
+use Rattle.model.proofs.Doing.{does_all, does_short}
 use Rattle.model.proofs.Ending.{placed_end}
 use Rattle.frame.proofs.Legal.{legal_facts}
 use Rattle.frame.proofs.Fitting.{fits_facts}
 use Rattle.drive_set.specs.Sets.{tally}
-use Rattle.recovery.proofs.Taking.{none_first}
-
-none_rest : (a : Bool) (f : Refusal) (rest : Option Refusal) → None ≡ when a f rest → None ≡ rest
-none_rest true f rest e = let z : ◌≡◌ {A = ℕ} 0 1 = cc in absurd (omega arith)
-none_rest false f rest e = e
+use Rattle.model.proofs.Passing.{passed}
+use Rattle.recovery.proofs.Refusing.{none_at}
 
 module _ (a : Applying) (ks : List Mark) (m : Meaning) where
-  pub does_not_finish : (f : Refusal) → Some f ≡ finish_fault a (length ks) m → Does (finishing a ks m) (applying a ks) m (refused f) (applying a ks) m
-  unfolding finishing
-  does_not_finish f e = does_refused (finishing a ks m) (applying a ks) m f (sym e)
+  module _ (fine : Ok tt ≡ answer (finish_fault a (length ks) m)) (is-legal : legal a.shape ≡ true) where
+    none : finish_fault a (length ks) m ≡ None
+    none = none_at _ _ fine
 
-  module _ (fine : None ≡ finish_fault a (length ks) m) (is-legal : legal a.shape ≡ true) where
-    rest : None ≡ when (not (eqb (length ks) (a.shape.pages * 240))) BadLength (when (leb 4294967295 a.round) LastRound (when (not (fits a.shape m)) (Rack NoPlace) None))
-    rest = none_rest (not (eqb (untaken a.shape a.taken) 0)) BadLog _ fine
+    after_marks : when (not (eqb (length ks) (a.shape.pages * 240))) BadLength (when (leb 4294967295 a.round) LastRound (when (not (fits a.shape m)) (Rack NoPlace) None)) ≡ None
+    after_marks = (passed (not (eqb (untaken a.shape a.taken) 0)) BadLog _ none).1
 
     pub long : length ks ≡ a.shape.pages * 240
-    long = eqb-true (length ks) (a.shape.pages * 240) (not-false _ (none_first (not (eqb (length ks) (a.shape.pages * 240))) BadLength _ rest))
+    long = eqb-true (length ks) (a.shape.pages * 240) (not-false _ (passed _ BadLength _ after_marks).0)
 
     fitting : fits a.shape m ≡ true
-    fitting =
-        not-false _ (none_first (not (fits a.shape m)) (Rack NoPlace) None
-        (none_rest (leb 4294967295 a.round) LastRound _ (none_rest (not (eqb (length ks) (a.shape.pages * 240))) BadLength _ rest)))
+    fitting = not-false _ (passed _ (Rack NoPlace) None (passed (leb 4294967295 a.round) LastRound _ (passed _ BadLength _ after_marks).1).1).0
 
     sized : (p : ℕ) → p < a.shape.pages → length (found_page a.shape.pages ks p) ≡ 240
     sized p h =
         let e : length (take 240 (drop (p * 240) ks)) ≡ 240 = simp (length-take, length-drop) (omega (arith, long)) in
-        ap length (ap (λ (t : Bool). cond t (map (λ k. k.byte) (take 240 (drop (p * 240) ks))) []) (lt-ltb p a.shape.pages h)) ∙ length-map (take 240 (drop (p * 240) ks)) (λ k. k.byte) ∙ e
+        rw (lt-ltb p a.shape.pages h) (length-map (take 240 (drop (p * 240) ks)) (λ k. k.byte) ∙ e)
 
     placed : Placed (round_end a.shape a.round (is_named a) (found_page a.shape.pages ks)) m
     placed =
@@ -55,38 +49,29 @@ module _ (a : Applying) (ks : List Mark) (m : Meaning) where
         let s = f.size 0 (omega arith) in
         placed_end a.shape a.round (is_named a) (found_page a.shape.pages ks) m f.count (omega (arith, l.room)) sized
 
-    -- the table holds the pages found
-    module _ (table : List Page) (found : (p : ℕ) → pages_in a.shape.pages table p ≡ rest_page (found_page a.shape.pages ks p)) where
-      contents : contents_in a.shape.pages table ≡ found_page a.shape.pages ks
-      contents = λ i p. (found p i).committed
+    -- the numbers and the table that the code has
+    module _ (pages logs : ℕ) (p : pages ≡ a.shape.pages) (l : logs ≡ a.shape.logs) (table : List Page) (filled : length ks ≡ pages * 240 → (q : ℕ) → pages_in pages table q ≡ rest_page (found_page pages ks q)) where
+      -- the table holds the pages found
+      found : (q : ℕ) → pages_in a.shape.pages table q ≡ rest_page (found_page a.shape.pages ks q)
+      found = subst (λ (n : ℕ). (q : ℕ) → pages_in n table q ≡ rest_page (found_page n ks q)) p (filled (long ∙ ap (λ (k : ℕ). k * 240) (sym p)))
 
-      -- the strokes as the code plans them: from the head's numbers and the table
+      contents : contents_in a.shape.pages table ≡ found_page a.shape.pages ks
+      contents = λ i q. (found q i).committed
+
+      -- the strokes as the code plans them
       abbrev Ended : ℕ → ℕ → Option RackFault → Meaning → Type 0
       Ended pages logs r n = Plays (round_end (record { pages = pages; logs = logs; blocks = λ d. 0 }) a.round (is_named a) (contents_in pages table)) m r n
 
-      planned : (pages logs : ℕ) (r : Option RackFault) (n : Meaning) → pages ≡ a.shape.pages → logs ≡ a.shape.logs → Ended pages logs r n →
-          Plays (round_end a.shape a.round (is_named a) (found_page a.shape.pages ks)) m r n
-      planned pages logs r n p l y =
-          let first : Ended a.shape.pages a.shape.logs r n = subst (λ (k : ℕ). Ended a.shape.pages k r n) l (subst (λ (k : ℕ). Ended k logs r n) p y) in
-          subst (λ (c : ℕ → List ℕ). Plays (round_end a.shape a.round (is_named a) c) m r n) contents first
+      planned : (r : Option RackFault) (n : Meaning) → Ended pages logs r n → Plays (round_end a.shape a.round (is_named a) (found_page a.shape.pages ks)) m r n
+      planned r n y = let z : Ended a.shape.pages a.shape.logs r n = rw (p, l) at y in subst (λ (c : ℕ → List ℕ). Plays (round_end a.shape a.round (is_named a) c) m r n) contents z
 
-      pub does_end_short : (pages logs : ℕ) (f : RackFault) (n : Meaning) → pages ≡ a.shape.pages → logs ≡ a.shape.logs → Ended pages logs (Some f) n →
-          Does (finishing a ks m) (applying a ks) m (refused OutOfStrokes) cold n
+      pub does_end_short : (f : RackFault) (n : Meaning) → Ended pages logs (Some f) n → Does (finishing a ks m) (applying a ks) m (refused OutOfStrokes) cold n
       unfolding finishing
-      does_end_short pages logs f n p l y = does_short (finishing a ks m) (applying a ks) m n f (sym fine) placed (planned pages logs (Some f) n p l y)
-
-      pub does_finish : (pages logs : ℕ) (n : Meaning) → pages ≡ a.shape.pages → logs ≡ a.shape.logs → Ended pages logs None n →
-          (sets written : ℕ) → sets ≡ committed a.numbers → written ≡ tally (is_named a) pages → (w : Warm) → w ≡ rested a.shape (suc a.round) (found_page a.shape.pages ks) →
-          Does (finishing a ks m) (applying a ks) m (numbers sets written) (warm w) n
-      unfolding finishing
-      does_finish pages logs n p l y sets written s t w e =
-          let d = does_all (finishing a ks m) (applying a ks) m n (sym fine) placed (planned pages logs None n p l y) in
-          subst (λ (x : Warm). Does (finishing a ks m) (applying a ks) m (numbers sets written) (warm x) n) (sym e)
-          (subst (λ (x : ℕ). Does (finishing a ks m) (applying a ks) m (numbers sets x) (warm (rested a.shape (suc a.round) (found_page a.shape.pages ks))) n) (sym (t ∙ ap (tally (is_named a)) p))
-          (subst (λ (x : ℕ). Does (finishing a ks m) (applying a ks) m (numbers x (tally (is_named a) a.shape.pages)) (warm (rested a.shape (suc a.round) (found_page a.shape.pages ks))) n) (sym s) d))
+      does_end_short f n y = does_short (finishing a ks m) (applying a ks) m n f none placed (planned (Some f) n y)
 
       -- the store at the start of the next round
-      pub fresh_is : record {
+      abbrev Fresh : Warm → Type 0
+      Fresh w = w ≡ record {
         shape = a.shape;
         round = a.round + 1;
         page = pages_in a.shape.pages table;
@@ -96,15 +81,23 @@ module _ (a : Applying) (ks : List Mark) (m : Meaning) where
         commits = 0;
         sets = [];
         spoilt = false;
-      } ≡ rested a.shape (suc a.round) (found_page a.shape.pages ks)
-      fresh_is = λ i. record {
+      }
+
+      fresh_is : (w : Warm) → Fresh w → w ≡ rested a.shape (suc a.round) (found_page a.shape.pages ks)
+      fresh_is w e = e ∙ (λ i. record {
         shape = a.shape;
         round = add-one a.round i;
-        page = λ p. found p i;
+        page = λ q. found q i;
         filled = λ _. 0;
         turn = 1;
         begun = 0;
         commits = 0;
         sets = [];
         spoilt = false;
-      }
+      })
+
+      pub does_finish : (n : Meaning) → Ended pages logs None n → (sets written : ℕ) → sets ≡ committed a.numbers → written ≡ tally (is_named a) a.shape.pages → (w : Warm) → Fresh w →
+          Does (finishing a ks m) (applying a ks) m (numbers sets written) (warm w) n
+      unfolding finishing
+      does_finish n y sets written s t w e =
+          rw (s, t, fresh_is w e) (does_all (finishing a ks m) (applying a ks) m n none placed (planned None n y))

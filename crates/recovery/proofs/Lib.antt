@@ -1,6 +1,9 @@
 pub mod Wiping
 pub mod LayingOut
+pub mod Formats
 pub mod Opens
+pub mod Refusing
+pub mod Counting
 pub mod Taking
 pub mod Collects
 pub mod Applies

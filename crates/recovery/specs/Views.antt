@@ -6,12 +6,14 @@
 --   applying_in a         the applying store a
 --   log_in c d            the log on drive d, as the collecting store c reads it
 --   number_reply r        the reply of a call that answers a number
+--   moved_reply r         the reply of a call that moves a store on and answers a number
+--   moved_store n b r     the store that it leaves: n of the new one, or b of the one it gave back
 --   opened_reply r        what open replied
 --   opened_store r ks     the store that open leaves, where the caller's marks are ks
 --   turned_reply r        what turn replied
 --   turned_store r ks     the store that turn leaves, where the caller's marks are ks
 --   KeepsMarks r ks js    where open refused, the caller's marks are as they were
-use Rattle.std.specs.Prelude.{◌≡◌, ℕ, List, Ok, Err, Result}
+use Rattle.std.specs.Prelude.{◌≡◌, ℕ, List, Ok, Err, Result, OnErr}
 use Rattle.later.specs.declared.Mark.{Mark}
 use Rattle.drive_set.specs.Sets.{holds}
 use Rattle.frame.specs.Frames.{shape_in}
@@ -23,10 +25,7 @@ use Rattle.recovery.specs.declared.Cold.{Cold}
 use Rattle.recovery.specs.declared.Scan.{Scan}
 use Rattle.recovery.specs.declared.Collecting.{Collecting}
 use Rattle.recovery.specs.declared.Applying.{Applying}
-use Rattle.recovery.specs.declared.Turned.{Turned}
-use Rattle.recovery.specs.declared.Turned.TheVariants.{Turn, Refused as Back}
-use Rattle.recovery.specs.declared.Opened.{Opened}
-use Rattle.recovery.specs.declared.Opened.TheVariants.{Open, Refused}
+use Rattle.recovery.specs.declared.Refused.{Refused}
 
 abbrev pub cold_in : Cold → Store
 cold_in c = cold
@@ -47,22 +46,25 @@ abbrev pub number_reply : Result ℕ Refusal → Reply
 number_reply (Ok n) = number n
 number_reply (Err f) = refused f
 
-abbrev pub opened_reply : Opened → Reply
-opened_reply (Open c ρ) = number ρ
-opened_reply (Refused s f) = refused f
+abbrev pub moved_reply : {S T : Type 0} → Result (T × ℕ) (Refused S) → Reply
+moved_reply (Ok (s, n)) = number n
+moved_reply (Err r) = refused r.refusal
 
-abbrev pub opened_store : Opened → List Mark → Store
-opened_store (Open c ρ) ks = collecting (collecting_in c) ks
-opened_store (Refused s f) ks = cold
+abbrev pub moved_store : {S T : Type 0} → (T → Store) → (S → Store) → Result (T × ℕ) (Refused S) → Store
+moved_store next back (Ok (s, n)) = next s
+moved_store next back (Err r) = back r.store
 
-abbrev pub KeepsMarks : Opened → List Mark → List Mark → Type 0
-KeepsMarks (Open c ρ) ks js = Unit {0}
-KeepsMarks (Refused s f) ks js = js ≡ ks
+abbrev pub opened_reply : Result (Collecting × ℕ) (Refused Cold) → Reply
+opened_reply r = moved_reply r
 
-abbrev pub turned_reply : Turned → Reply
-turned_reply (Turn a n) = number n
-turned_reply (Back c f) = refused f
+abbrev pub opened_store : Result (Collecting × ℕ) (Refused Cold) → List Mark → Store
+opened_store r ks = moved_store (λ c. collecting (collecting_in c) ks) cold_in r
 
-abbrev pub turned_store : Turned → List Mark → Store
-turned_store (Turn a n) ks = applying (applying_in a) ks
-turned_store (Back c f) ks = collecting (collecting_in c) ks
+abbrev pub KeepsMarks : Result (Collecting × ℕ) (Refused Cold) → List Mark → List Mark → Type 0
+KeepsMarks r ks js = OnErr r (js ≡ ks)
+
+abbrev pub turned_reply : Result (Applying × ℕ) (Refused Collecting) → Reply
+turned_reply r = moved_reply r
+
+abbrev pub turned_store : Result (Applying × ℕ) (Refused Collecting) → List Mark → Store
+turned_store r ks = moved_store (λ a. applying (applying_in a) ks) (λ c. collecting (collecting_in c) ks) r

@@ -1,70 +1,54 @@
 // Finish: the round ends with the pages that recovery found, and the store is warm.
-ghost use Rattle.std.specs.Prelude.{◌≡◌, ◌≤◌, false, if◌then◌else◌, slice_index_or};
+ghost use Rattle.std.specs.Prelude.{◌≡◌};
+ghost use Rattle.rack.specs.Answers.{answer};
 ghost use Rattle.drive_set.specs.Sets.{tally};
 ghost use Rattle.model.specs.Store.{applying as applying_store};
 ghost use Rattle.model.specs.Outcome.{Does};
-ghost use Rattle.model.specs.Rounds.{finish_fault, finishing as finishing_of};
+ghost use Rattle.model.specs.Rounds.{finish_fault, finishing as finishing_of, is_named};
 ghost use Rattle.recovery.specs.Views.{applying_in};
 ghost use Rattle.recovery.specs.Finish.{finished_reply, finished_store};
 
 use crate::gathering::count_committed;
-use crate::{Applying, Cold, Finished};
+use crate::{Applying, Cold, Finished, Refused, Unfinished};
 use block::Head;
 use later::Mark;
 use model::Refusal;
-use rack::{Rack, RackFault};
+use rack::Rack;
 use table::{end_round, found_pages};
 use warm::Warm;
 
-// 1 for a page that is named, and 0 for one that is not.
-fn is_named(named: &[bool; 64], page: u16) -> u16
-    ensures value { result ≡ (if slice_index_or named.now page false then 1 else 0) }
-    ensures most { result ≤ 1 }
-{
-    if page >= 64 {
-        return 0;
-    }
-    if named[page as usize] { 1 } else { 0 }
-}
-
-// How many of the pages are named.
-fn count_named(named: &[bool; 64], pages: u16) -> u16
-    ensures { result ≡ tally (λ p. slice_index_or named.now p false) pages }
-{
-    let mut count = 0;
-    for page in 0..pages {
-        count += is_named(named, page);
-    }
-    count
-}
-
 impl Applying {
-    // Why recovery cannot end with so many marks.
-    fn check_end<R: Rack>(&self, rack: &R, marks: usize) -> Option<Refusal>
-        ensures { result ≡ finish_fault (applying_in self.now) marks (R.Rack.meaning rack.now) }
+    // How many pages are named.
+    fn count_named(&self) -> u16
+        ensures { result ≡ tally (is_named (applying_in self.now)) (applying_in self.now).shape.pages }
     {
-        if self.scan.untaken() != 0 {
-            return Some(Refusal::BadLog);
+        let pages = usize::from(self.scan.frame.pages());
+        self.named[..pages].iter().filter(|named| **named).count() as u16
+    }
+
+    // Refused where recovery cannot end with so many marks.
+    fn check_end<R: Rack>(&self, rack: &R, marks: usize) -> Result<(), Refusal>
+        ensures { result ≡ answer (finish_fault (applying_in self.now) marks (R.Rack.meaning rack.now)) }
+    {
+        self.scan.check_all_taken()?;
+        self.scan.check_marks(marks)?;
+        if self.scan.round == u32::MAX {
+            return Err(Refusal::LastRound);
         }
-        if marks != self.scan.frame.pages() as usize * 240 {
-            return Some(Refusal::BadLength);
-        }
-        if self.scan.round >= 4294967295 {
-            return Some(Refusal::LastRound);
-        }
-        if !self.scan.frame.fits(rack) {
-            return Some(Refusal::Rack(RackFault::NoPlace));
-        }
-        None
+        self.scan.check_rack(rack)
     }
 
     // Ends the round with the pages found; answers the committed sets and the pages written. Where strokes run out the
     // store is cold.
-    pub fn finish<R: Rack>(self, rack: &mut R, marks: &[Mark]) -> Finished
+    pub fn finish<R: Rack>(self, rack: &mut R, marks: &[Mark]) -> Result<Finished, Unfinished>
         ensures { Does (finishing_of (applying_in self) marks.now (R.Rack.meaning rack.old)) (applying_store (applying_in self) marks.now) (R.Rack.meaning rack.old) (finished_reply result) (finished_store result marks.now) (R.Rack.meaning rack.new) }
     {
-        if let Some(refusal) = self.check_end(rack, marks.len()) {
-            return Finished::Refused(self, refusal);
+        // no `map_err` with `?`: its closure would take the store, which is needed below
+        if let Err(refusal) = self.check_end(rack, marks.len()) {
+            return Err(Unfinished::Refused(Refused {
+                store: self,
+                refusal,
+            }));
         }
         let pages = self.scan.frame.pages();
         let head = Head {
@@ -73,14 +57,11 @@ impl Applying {
             logs: self.scan.frame.logs(),
         };
         let table = found_pages(marks, pages);
-        let sets = count_committed(&self.scan.numbers);
-        let written = count_named(&self.named, pages);
-        match end_round(rack, head, &self.named, &table) {
-            Ok(()) => {
-                let warm = Warm::rested(self.scan.frame, self.scan.round + 1, table);
-                Finished::Done(warm, sets, written)
-            }
-            Err(_) => Finished::Short(Cold),
-        }
+        end_round(rack, head, &self.named, &table).map_err(|_| Unfinished::OutOfStrokes(Cold))?;
+        Ok(Finished {
+            store: Warm::rested(self.scan.frame, self.scan.round + 1, table),
+            sets: count_committed(&self.scan.numbers),
+            pages: self.count_named(),
+        })
     }
 }

@@ -1,5 +1,6 @@
 // An applying store: it takes the change records of each log once, in any order, into the caller's marks.
 ghost use Rattle.std.specs.Prelude.{◌≡◌};
+ghost use Rattle.rack.specs.Answers.{answer};
 ghost use Rattle.model.specs.Store.{applying as applying_store};
 ghost use Rattle.model.specs.Outcome.{Does};
 ghost use Rattle.model.specs.Recovery.{apply_fault, apply_of};
@@ -9,23 +10,16 @@ ghost use Rattle.recovery.specs.Views.{applying_in, number_reply};
 use crate::Applying;
 use later::Mark;
 use model::Refusal;
-use rack::{Rack, RackFault};
+use rack::Rack;
 
 impl Applying {
-    // Why a log cannot be taken into so many marks.
-    fn check<R: Rack>(&self, rack: &R, log: u16, marks: usize) -> Option<Refusal>
-        ensures { result ≡ apply_fault (applying_in self.now) marks log (R.Rack.meaning rack.now) }
+    // Refused where a log cannot be taken into so many marks.
+    fn check<R: Rack>(&self, rack: &R, log: u16, marks: usize) -> Result<(), Refusal>
+        ensures { result ≡ answer (apply_fault (applying_in self.now) marks log (R.Rack.meaning rack.now)) }
     {
-        if !self.scan.can_take(log) {
-            return Some(Refusal::BadLog);
-        }
-        if marks != self.scan.frame.pages() as usize * 240 {
-            return Some(Refusal::BadLength);
-        }
-        if !self.scan.frame.fits(rack) {
-            return Some(Refusal::Rack(RackFault::NoPlace));
-        }
-        None
+        self.scan.check_log(log)?;
+        self.scan.check_marks(marks)?;
+        self.scan.check_rack(rack)
     }
 
     // Takes the change records of a log into the marks; answers how many logs are still untaken. In which order the logs
@@ -35,14 +29,10 @@ impl Applying {
         ensures largest_stays { LargestStays }
         ensures does { Does (apply_of (applying_in self.old) marks.old log (R.Rack.meaning rack.now)) (applying_store (applying_in self.old) marks.old) (R.Rack.meaning rack.now) (number_reply result) (applying_store (applying_in self.new) marks.new) (R.Rack.meaning rack.now) }
     {
-        if let Some(refusal) = self.check(rack, log, marks.len()) {
-            return Err(refusal);
-        }
-        let mut named = self.named;
+        self.check(rack, log, marks.len())?;
         self.scan
             .log(log)
-            .apply(rack, &self.scan.numbers, marks, &mut named);
-        self.named = named;
+            .apply(rack, &self.scan.numbers, marks, &mut self.named);
         self.scan.taken = self.scan.taken.with(log);
         Ok(self.scan.untaken())
     }

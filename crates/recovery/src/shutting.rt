@@ -7,32 +7,19 @@ use crate::{Applying, Cold, Collecting};
 use warm::Warm;
 
 // A state of a store.
-pub trait Shut: Sized {
+pub trait Shut: Sized + Drop {
     // The store, cold.
     fn shut(self) -> Cold
-        ensures { cold_in result ≡ cold };
-}
-
-impl Shut for Cold {
-    fn shut(self) -> Cold {
-        self
-    }
-}
-
-impl Shut for Collecting {
-    fn shut(self) -> Cold {
+        ensures { cold_in result ≡ cold }
+    {
         Cold
     }
 }
 
-impl Shut for Applying {
-    fn shut(self) -> Cold {
-        Cold
-    }
-}
+impl Shut for Cold {}
 
-impl Shut for Warm {
-    fn shut(self) -> Cold {
-        Cold
-    }
-}
+impl Shut for Collecting {}
+
+impl Shut for Applying {}
+
+impl Shut for Warm {}

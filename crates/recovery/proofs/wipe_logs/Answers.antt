@@ -1,4 +1,4 @@
-use Rattle.std.proofs.Common.{ℕ, ◌-◌, ◌<◌, ◌≤◌, List, Some, None, Option, subst, arith}
+use Rattle.std.proofs.Common.{ℕ, ◌-◌, ◌<◌, List, Some, None, Option, subst, arith}
 use Rattle.strokes.specs.declared.Stroke.{Stroke}
 use Rattle.std.proofs.lemmas.Result.{err_from_is_err_and}
 use Rattle.rack.specs.declared.RackFault.{RackFault}
@@ -14,28 +14,22 @@ use Rattle.recovery.proofs.wipe_logs.Goals as goal
 at_drive : (m k : Meaning) (d : ℕ) (plan : List Stroke) → d < m.count → Onto plan m (wipes m.size d (m.count - d)) k → (r : Option RackFault) (n : Meaning) → Plays (wipe k.size d) k r n → Plays (wipe m.size d) k r n
 at_drive m k d plan h o r n p = subst (λ (j : ℕ). Plays (settled_run d 0 j (zeros 512)) k r n) (o.alike.size d) p
 
-pub wipe_log-requires : goal.wipe_log-requires
-wipe_log-requires g c = let e = c.loop-drive.invariant.alike.count in omega arith
-
 pub loop-drive-preserved : goal.loop-drive-preserved
 loop-drive-preserved g c =
     let m = g.R.Rack.meaning c.args.rack.now in
-    let k = g.R.Rack.meaning c.loop-drive.rack in
     let d = c.loop-drive.drive in
     let h : d < m.count = omega arith in
-    part_made (wipe m.size d) _ _ m k _ (rw (wipes_more m.size d m.count h) at c.loop-drive.invariant) (at_drive m k d _ h c.loop-drive.invariant None _ c.in_ok-wipe_log.ensures)
+    part_made (wipe m.size d) _ _ m _ _ (rw (wipes_more m.size d m.count h) at c.loop-drive.invariant) (at_drive _ _ _ _ h c.loop-drive.invariant None _ c.in_ok-wipe_log.ensures)
 
 pub returns : goal.returns
 returns g c =
     let m = g.R.Rack.meaning c.args.rack.now in
-    let h : m.count ≤ c.loop-drive.drive = omega arith in
-    onto_all _ _ _ (rw (wipes_all m.size c.loop-drive.drive m.count h) at c.loop-drive.invariant)
+    onto_all _ _ _ (rw (wipes_all m.size c.loop-drive.drive m.count (omega arith)) at c.loop-drive.invariant)
 
 pub returns-in_err-wipe_log : goal.returns-in_err-wipe_log
 returns-in_err-wipe_log g c =
     let m = g.R.Rack.meaning c.args.rack.now in
-    let k = g.R.Rack.meaning c.loop-drive.rack in
     let d = c.loop-drive.drive in
     let h : d < m.count = omega arith in
     let p = err_from_is_err_and c.from_residual.result c.from_residual.ensures.1 in
-    rw (p.1, p.2) (part_refused (wipe m.size d) _ _ m k _ _ (rw (wipes_more m.size d m.count h) at c.loop-drive.invariant) (at_drive m k d _ h c.loop-drive.invariant (Some _) _ c.in_err-wipe_log.ensures))
+    rw (p.1, p.2) (part_refused (wipe m.size d) _ _ m _ _ _ (rw (wipes_more m.size d m.count h) at c.loop-drive.invariant) (at_drive _ _ _ _ h c.loop-drive.invariant (Some _) _ c.in_err-wipe_log.ensures))
