@@ -3,75 +3,62 @@
 // here lines are read, memory is had for racks, and answers are printed.
 #![tactic(auto)]
 
+ghost use Rattle.std.specs.Prelude.{◌<◌, IfOk, OnSome};
+ghost use Rattle.std.specs.Io.Iter.{pieces_left_to_read};
+
 use anyhow::anyhow;
-use console::{Station, Step};
+use console::{Order, Station, Step};
 use rack::shape::Shape;
 use script::answers::Answer;
-use std::io::{BufRead, BufReader};
-
-// A rack that is to be built.
-#[derive(Clone, Copy)]
-struct Order {
-    shape: Shape,
-    left: u64,
-}
+use std::alloc::Global;
+use std::io::{BufRead, Split};
 
 // Answers lines up to the end of the input, or up to one that asks for a new rack.
-fn serve<B: BufRead>(
-    rt: &HostRuntime,
-    input: &mut B,
+fn serve<B: BufRead + Drop>(
+    rt: &(impl Print + Alloc<A = Global>),
+    lines: &mut Split<B>,
     station: &mut Station<'_>,
-) -> anyhow::Result<Option<Order>> {
-    let mut line = Vec::new(rt.alloc());
-    for _ in 0..u64::MAX {
-        line.clear();
-        if input.read_until(b'\n', &mut line)? == 0 {
-            break;
-        }
-        match station.answer(rt.alloc(), line.as_slice())? {
+) -> anyhow::Result<Option<Order>>
+    ensures { IfOk result (λ next. OnSome next (pieces_left_to_read lines.new < pieces_left_to_read lines.old)) }
+{
+    // no `for` over the borrowed lines: the clause on what is left to read needs them by name
+    while let Some(line) = lines.next() {
+        match station.answer(rt.alloc(), line?.as_slice())? {
             Step::Say(answer) => rt.println(answer)?,
-            Step::Build { shape, left } => return Ok(Some(Order { shape, left })),
+            Step::Build(order) => return Ok(Some(order)),
         }
     }
     Ok(None)
 }
 
-// Builds a rack in memory of its own and serves it; says so where it is a new one.
-fn build<B: BufRead>(
-    rt: &HostRuntime,
-    input: &mut B,
+// Builds a rack in memory of its own, says so, and serves it.
+fn build<B: BufRead + Drop>(
+    rt: &(impl Print + Alloc<A = Global>),
+    lines: &mut Split<B>,
     order: Order,
-    is_new: bool,
-) -> anyhow::Result<Option<Order>> {
+) -> anyhow::Result<Option<Order>>
+    ensures { IfOk result (λ next. OnSome next (pieces_left_to_read lines.new < pieces_left_to_read lines.old)) }
+{
     let total = order.shape.total();
     let mut bytes = vec![in rt.alloc(); 0u8; 512 * total]?;
     let mut marks = vec![in rt.alloc(); 1u8; total]?;
-    let Ok(mut station) = Station::new(
-        order.shape,
-        bytes.as_mut_slice(),
-        marks.as_mut_slice(),
-        order.left,
-    ) else {
-        return Err(anyhow!("a rack's memory does not fit its shape"));
-    };
-    if is_new {
-        rt.println(Answer::Done)?;
-    }
-    serve(rt, input, &mut station)
+    let mut station = Station::new(order, bytes.as_mut_slice(), marks.as_mut_slice()).map_err(
+        |_| anyhow!("a rack's memory does not fit its shape"),
+    )?;
+    rt.println(Answer::Done)?;
+    serve(rt, lines, &mut station)
 }
 
 // Before the first command `rack` there is a rack with no drives.
-fn run(rt: &HostRuntime) -> anyhow::Result<()> {
-    let mut input = BufReader::new(rt.alloc(), rt.stdin())?;
-    let Ok(shape) = Shape::new(&[]) else {
-        return Err(anyhow!("no shape without drives"));
-    };
-    let mut next = build(rt, &mut input, Order { shape, left: 0 }, false)?;
-    for _ in 0..u64::MAX {
-        let Some(order) = next else {
-            break;
-        };
-        next = build(rt, &mut input, order, true)?;
+fn run(rt: &(impl Input + Print + Alloc<A = Global>)) -> anyhow::Result<()> {
+    let mut lines = rt.reader().split(rt.alloc(), b'\n');
+    let shape = Shape::new(&[]).map_err(|_| anyhow!("no shape without drives"))?;
+    let mut station = Station::new(Order { shape, left: 0 }, &mut [], &mut []).map_err(|_| anyhow!(
+        "a rack without drives needs memory"
+    ))?;
+    let mut next = serve(rt, &mut lines, &mut station)?;
+    while let Some(order) = next {
+        next = build(rt, &mut lines, order)?;
     }
     Ok(())
 }

@@ -1,5 +1,8 @@
 pub mod Splits
 pub mod Upon
-pub mod Figures
+pub mod Decimals
+pub mod Pairs
+pub mod Hex
 pub mod Names
-pub mod Writing
+pub mod Texts
+pub mod Readings

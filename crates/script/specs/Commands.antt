@@ -2,8 +2,8 @@
 --
 --   Said               a command, as plain data
 --   said c             what the command c says
---   Form               a form: what words from some place on say, if they are as wanted
---   end s              the form of no more words, which says s
+--   Form X             a form: what words from some place on say, an X, if they are as wanted
+--   end x              the form of no more words, which says x
 --   number k           the form of a number n, and then of the form k n
 --   hex k              the form of bytes bs, and then of the form k bs
 --   numbers s          the form of any count of numbers ns, which says s ns
@@ -36,51 +36,51 @@ said (Poke d b at bytes) = poke d b at (vec_items bytes)
 said (Tear d b) = tear d b
 said (Stop n) = stop n
 
-abbrev pub Form : Type 0
-Form = List Word → Option Said
+abbrev pub Form : Type 0 → Type 0
+Form X = List Word → Option X
 
-abbrev pub end : Said → Form
-end s [] = Some s
-end s (w ∷ ws) = None
+abbrev pub end : {X : Type 0} → X → Form X
+end x [] = Some x
+end x (w ∷ ws) = None
 
-abbrev pub number : (ℕ → Form) → Form
+abbrev pub number : {X : Type 0} → (ℕ → Form X) → Form X
 number k ws = given (given (first ws) number_in) (λ n. k n (drop 1 ws))
 
-abbrev pub hex : (List ℕ → Form) → Form
+abbrev pub hex : {X : Type 0} → (List ℕ → Form X) → Form X
 hex k ws = given (given (first ws) hex_in) (λ bs. k bs (drop 1 ws))
 
-abbrev pub numbers : (List ℕ → Said) → Form
+abbrev pub numbers : {X : Type 0} → (List ℕ → X) → Form X
 numbers s ws = option_map s (numbers_in ws)
 
 -- rack LEFT SIZE SIZE ..
-abbrev pub rack_form : Form
+abbrev pub rack_form : Form Said
 rack_form = number (λ n. numbers (λ sizes. rack n sizes))
 
 -- format PAGES
-abbrev pub format_form : Form
+abbrev pub format_form : Form Said
 format_form = number (λ n. end (format n))
 
 -- left
-abbrev pub left_form : Form
+abbrev pub left_form : Form Said
 left_form = end left
 
 -- block D B
-abbrev pub block_form : Form
+abbrev pub block_form : Form Said
 block_form = number (λ d. number (λ b. end (block d b)))
 
 -- poke D B AT HEX
-abbrev pub poke_form : Form
+abbrev pub poke_form : Form Said
 poke_form = number (λ d. number (λ b. number (λ at. hex (λ bytes. end (poke d b at bytes)))))
 
 -- tear D B
-abbrev pub tear_form : Form
+abbrev pub tear_form : Form Said
 tear_form = number (λ d. number (λ b. end (tear d b)))
 
 -- stop LEFT
-abbrev pub stop_form : Form
+abbrev pub stop_form : Form Said
 stop_form = number (λ n. end (stop n))
 
-abbrev pub forms : List (Word × Form)
+abbrev pub forms : List (Word × Form Said)
 forms =
     (codes "rack", rack_form)
     ∷ (codes "format", format_form)
@@ -92,7 +92,7 @@ forms =
     ∷ []
 
 -- the form that goes by this name
-abbrev pub form_of : List (Word × Form) → Word → Form
+abbrev pub form_of : List (Word × Form Said) → Word → Form Said
 form_of [] name ws = None
 form_of (f ∷ fs) name ws = cond (bytes_eq name f.0) (f.1 ws) (form_of fs name ws)
 

@@ -1,42 +1,22 @@
 // What the program answers to a line, as text.
-ghost use Rattle.std.specs.Prelude.{◌≡◌, ◌<◌, [], ◌∷◌, Some};
+ghost use Rattle.std.specs.Prelude.{Some};
 ghost use Rattle.std.specs.Fmt.{WritesOnOk};
-ghost use Rattle.script.specs.Texts.{digit_text, hex_text, answer_text};
+ghost use Rattle.script.specs.Texts.{hex_text, answer_text};
 
+use model::Refusal;
 use std::fmt;
 
-#[derive(Clone, Copy)]
+#[derive(Clone, Copy, Debug)]
 pub enum Answer {
     Done,
     Number(u64),
     // the bytes of a block
     Block([u8; 512]),
-    // the number of a refusal
-    Refused(u8),
+    Refused(Refusal),
     // a call that the store's state does not offer
     NotNow,
     // a line that is no command
     Unknown,
-}
-
-// A capital hexadecimal digit.
-fn digit(d: u8) -> char
-    requires { d < 16 }
-    ensures { result ≡ digit_text d }
-{
-    if d < 10 {
-        (b'0' + d) as char
-    } else {
-        (b'A' - 10 + d) as char
-    }
-}
-
-// A byte as two digits.
-fn write_byte<W: fmt::Write>(b: u8, f: &mut fmt::Formatter<W>) -> fmt::Result
-    ensures { WritesOnOk W.write_str_gives f.old result (hex_text (b ∷ [])) f.new }
-{
-    f.write_char(digit(b / 16))?;
-    f.write_char(digit(b % 16))
 }
 
 // Two digits for each byte.
@@ -44,7 +24,7 @@ fn write_hex<W: fmt::Write>(bytes: &[u8], f: &mut fmt::Formatter<W>) -> fmt::Res
     ensures { WritesOnOk W.write_str_gives f.old result (hex_text bytes.now) f.new }
 {
     for b in bytes {
-        write_byte(*b, f)?;
+        write!(f, "{b:02X}")?;
     }
     Ok(())
 }
@@ -57,7 +37,7 @@ impl fmt::Display for Answer {
             Answer::Done => f.write_str("ok"),
             Answer::Number(n) => write!(f, "{n}"),
             Answer::Block(bytes) => write_hex(bytes, f),
-            Answer::Refused(n) => write!(f, "refused {n}"),
+            Answer::Refused(refusal) => write!(f, "refused {}", refusal.number()),
             Answer::NotNow => f.write_str("not now"),
             Answer::Unknown => f.write_str("unknown"),
         }

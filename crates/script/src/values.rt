@@ -1,31 +1,34 @@
 // What a word says, where a number or bytes are wanted.
-ghost use Rattle.std.specs.Prelude.{◌≡◌, IfOk, vec_items};
-ghost use Rattle.std.specs.Option.{option_map};
+ghost use Rattle.std.specs.Prelude.{◌≡◌, vec_items};
+ghost use Rattle.std.specs.Char.{is_ascii_digit};
+ghost use Rattle.std.specs.List.{list_all};
 ghost use Rattle.script.specs.Values.{number_in, digit_in, byte_in, hex_in};
+ghost use Rattle.script.specs.Reader.{Says};
 
-use std::alloc::{AllocError, Global};
+use crate::error::ParseError;
+use std::alloc::Global;
 
 // The most digits that a number has, leading zeros among them.
 const MOST_DIGITS: usize = 10;
+
+// Whether all of a word is decimal digits.
+fn is_digits(word: &[u8]) -> bool
+    ensures { result ≡ list_all is_ascii_digit word.now }
+{
+    word.iter().all(|c| c.is_ascii_digit())
+}
 
 // The number that a word is: one to ten digits, and no more than a u32 holds.
 pub fn number(word: &[u8]) -> Option<u32>
     ensures { result ≡ number_in word.now }
 {
-    if word.is_empty() || word.len() > MOST_DIGITS {
+    if word.len() > MOST_DIGITS || !is_digits(word) {
         return None;
     }
-    let mut n: u64 = 0;
-    for c in word {
-        if !c.is_ascii_digit() {
-            return None;
-        }
-        n = n * 10 + u64::from(*c - b'0');
-    }
-    u32::try_from(n).ok()
+    str::from_utf8(word).ok()?.parse().ok()
 }
 
-// The worth of a capital hexadecimal digit.
+// The worth of a capital hexadecimal digit. `char::to_digit` would take small letters too.
 fn digit(c: u8) -> Option<u8>
     ensures { result ≡ digit_in c }
 {
@@ -40,31 +43,20 @@ fn digit(c: u8) -> Option<u8>
 fn byte(high: u8, low: u8) -> Option<u8>
     ensures { result ≡ byte_in high low }
 {
-    match (digit(high), digit(low)) {
-        (Some(h), Some(l)) => Some(h * 16 + l),
-        _ => None,
-    }
+    Some(digit(high)? * 16 + digit(low)?)
 }
 
 // The bytes that a word writes, two digits a byte and at least one byte.
-pub fn hex(heap: Global, word: &[u8]) -> Result<Option<Vec<u8>>, AllocError>
-    ensures { IfOk result (λ o. option_map vec_items o ≡ hex_in word.now) }
+pub fn hex(heap: Global, word: &[u8]) -> Result<Vec<u8>, ParseError>
+    ensures { Says vec_items result (hex_in word.now) }
 {
-    if word.is_empty() {
-        return Ok(None);
+    let (pairs, odd) = word.as_chunks::<2>();
+    if word.is_empty() || !odd.is_empty() {
+        return Err(ParseError::Unknown);
     }
     let mut bytes = Vec::new(heap);
-    let mut rest = word;
-    while rest.len() >= 2 {
-        let Some(b) = byte(rest[0], rest[1]) else {
-            return Ok(None);
-        };
-        bytes.push(b)?;
-        rest = &rest[2..];
+    for [high, low] in pairs {
+        bytes.push(byte(*high, *low).ok_or(ParseError::Unknown)?)?;
     }
-    if rest.is_empty() {
-        Ok(Some(bytes))
-    } else {
-        Ok(None)
-    }
+    Ok(bytes)
 }

@@ -1,30 +1,32 @@
--- An arm's name is the text that it is compared with, and at that text `forms` gives the arm's form.
-use Rattle.std.proofs.Common.{codes}
-use Rattle.script.specs.Commands.{forms}
+use Rattle.std.proofs.Common.{◌≡◌, codes, sym, ap, ◌∙◌, rules}
+use Rattle.std.specs.Result.{result_ok}
+use Rattle.script.specs.Commands.{block, tear, stop, forms}
 use Rattle.script.specs.Reader.{ahead}
-use Rattle.script.proofs.Names.{same, no_form}
+use Rattle.script.proofs.Names.{no_form, no_text}
+use Rattle.script.proofs.Readings.{number_says, place_says}
+use Rattle.script.proofs.Texts.{text_is, not_text}
 use Rattle.script.proofs.named.Goals as goal
+use Rattle.script.proofs.named.Goals.{in_default-via-in-Ok+in_default, in_default-via-in_default}
 
-pub returns-then-is : goal.returns-then-is
-returns-then-is c = simp (same c.args.name.now (codes "rack") c.if-is.ensures) c.rack.ensures
+pub returns-in-Ok-block : goal.returns-in-Ok-block
+returns-in-Ok-block c =
+    let name : c.args.name.now ≡ codes "block" = sym c.in-Ok-block.ensures.cases.0 ∙ c.in-Ok-block.is-block in
+    rw name (place_says (λ p. block p.0 p.1) (ahead c.args.words) _ _ _ c.only_place.ensures c.map-in-Ok-block.ensures.cases (λ x k p. search rules))
 
-pub returns-then-is-2 : goal.returns-then-is-2
-returns-then-is-2 c = simp (same c.args.name.now (codes "format") c.if-is-2.ensures) c.format.ensures
+pub returns-in-Ok-tear : goal.returns-in-Ok-tear
+returns-in-Ok-tear c =
+    let name : c.args.name.now ≡ codes "tear" = sym c.in-Ok-tear.ensures.cases.0 ∙ c.in-Ok-tear.is-tear in
+    rw name (place_says (λ p. tear p.0 p.1) (ahead c.args.words) _ _ _ c.only_place-in-Ok-tear.ensures c.map-in-Ok-tear.ensures.cases (λ x k p. search rules))
 
-pub returns-then-is-3 : goal.returns-then-is-3
-returns-then-is-3 c = simp (same c.args.name.now (codes "left") c.if-is-3.ensures) c.left.ensures
+pub returns-in-Ok-stop : goal.returns-in-Ok-stop
+returns-in-Ok-stop c =
+    let name : c.args.name.now ≡ codes "stop" = sym c.in-Ok-stop.ensures.cases.0 ∙ c.in-Ok-stop.is-stop in
+    rw name (number_says (λ n. stop n) (ahead c.args.words) _ _ _ c.only_number-in-Ok-stop.ensures c.map-in-Ok-stop.ensures.cases (λ x k p. search rules))
 
-pub returns-then-is-4 : goal.returns-then-is-4
-returns-then-is-4 c = simp (same c.args.name.now (codes "block") c.if-is-4.ensures) c.block.ensures
-
-pub returns-then-is-5 : goal.returns-then-is-5
-returns-then-is-5 c = simp (same c.args.name.now (codes "poke") c.if-is-5.ensures) c.poke.ensures
-
-pub returns-then-is-6 : goal.returns-then-is-6
-returns-then-is-6 c = simp (same c.args.name.now (codes "tear") c.if-is-6.ensures) c.tear.ensures
-
-pub returns-then-is-7 : goal.returns-then-is-7
-returns-then-is-7 c = simp (same c.args.name.now (codes "stop") c.if-is-7.ensures) c.stop.ensures
-
-pub returns-else-is-7 : goal.returns-else-is-7
-returns-else-is-7 c = no_form forms c.args.name.now (ahead c.args.words) (c.if-is.ensures, (c.if-is-2.ensures, (c.if-is-3.ensures, (c.if-is-4.ensures, (c.if-is-5.ensures, (c.if-is-6.ensures, (c.if-is-7.ensures, tt)))))))
+pub returns-in_default : goal.returns-in_default
+returns-in_default c = elim c.in_default.branch [
+  | in_default-via-in-Ok+in_default w ↦
+      let text = text_is _ c.args.name.now _ w.in_default.field-0 c.from_utf8.ensures.cases (ap result_ok (sym w.in_default.is)) in
+      no_form forms c.args.name.now (ahead c.args.words) (rw (← text) (search rules))
+  | in_default-via-in_default w ↦ no_text c.args.name.now (ahead c.args.words) (not_text _ c.args.name.now _ c.from_utf8.ensures.cases (ap result_ok (sym w.in_default.is)))
+]

@@ -1,10 +1,8 @@
-use Rattle.std.proofs.Common.{◌≡◌, length, vec_items}
-use Rattle.script.specs.Values.{hex_in, bytes_in}
+use Rattle.std.proofs.Common.{◌≡◌, vec_items, drop}
+use Rattle.script.specs.Values.{hex_in}
+use Rattle.script.proofs.Pairs.{pairs_in}
 use Rattle.script.proofs.Upon.{upon}
 use Rattle.script.proofs.values.hex.Given as goal
 
-abbrev pub invariant-loop-rest : goal.invariant-loop-rest
-invariant-loop-rest l = upon (vec_items l.bytes) (bytes_in l.rest) ≡ hex_in l.word
-
-abbrev pub decreases-loop-rest : goal.decreases-loop-rest
-decreases-loop-rest l = length l.rest
+abbrev pub invariant-loop-high : goal.invariant-loop-high
+invariant-loop-high l = upon (vec_items l.bytes) (pairs_in (drop l.high-index l.pairs)) ≡ hex_in l.word

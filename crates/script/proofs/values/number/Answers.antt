@@ -1,12 +1,13 @@
-use Rattle.std.proofs.Common.{sym, ◌∙◌, arith, rules}
-use Rattle.script.proofs.Figures.{sofar_more, no_digit, number_is}
+use Rattle.std.proofs.Common.{◌∙◌, subst}
+use Rattle.std.specs.Str.Parse.{ParsesUnsigned}
+use Rattle.script.proofs.Decimals.{parsed, digits_are_utf8}
+use Rattle.script.proofs.Texts.{text_is, not_text}
 use Rattle.script.proofs.values.number.Goals as goal
 
-pub returns-then-not-is_ascii_digit : goal.returns-then-not-is_ascii_digit
-returns-then-not-is_ascii_digit c = no_digit _ _ c.loop-c-test.true _ c.loop-c.invariant (sym c.if-not-is_ascii_digit.ensures.value)
-
-pub loop-c-preserved : goal.loop-c-preserved
-loop-c-preserved c = sofar_more _ _ c.loop-c-test.true _ _ c.loop-c.invariant (sym c.if-not-is_ascii_digit.ensures.value) c.from.ensures
+pub returns-in_err-ok : goal.returns-in_err-ok
+returns-in_err-ok c = absurd (not_text _ c.args.word.now _ c.from_utf8.ensures.cases c.in_err-ok.ensures.value (digits_are_utf8 c.args.word.now c.if-not-is_digits.ensures))
 
 pub returns : goal.returns
-returns c = c.ok.ensures.value ∙ number_is _ _ _ _ (search rules) (omega arith) (omega arith) c.loop-c.invariant c.try_from.ensures
+returns c =
+    let same = text_is _ c.args.word.now _ _ c.from_utf8.ensures.cases c.in_ok-ok.ensures.value in
+    c.ok-2.ensures.value ∙ parsed _ _ c.if-word-gt-MOST_DIGITS.false c.if-not-is_digits.ensures (subst (λ t. ParsesUnsigned 32 10 t c.parse.result) same c.parse.ensures.value.0)
