@@ -22,7 +22,7 @@ pub use edits::{gather, overlay};
 pub use runs::{Pair, Pairs, covers, total};
 
 // A change of a page: the round it was made in, its set and its step there, and what the runs of bytes that it touches
-// hold before it and after it, joined.
+// hold before it and after it, joined. The numbers are those of the layout, so set and step may be 0, which no block says.
 #[derive(Clone, Copy)]
 pub struct Change<'a> {
     pub page: u16,

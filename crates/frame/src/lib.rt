@@ -15,7 +15,8 @@ mod standing;
 const DRIVES: usize = 9;
 
 // How many pages a store has, how many log drives, and how many blocks each drive has. The sizes stand in an array with
-// room for every drive that a store can have, since nothing is allocated; those of drives that are not there are 0.
+// room for every drive that a store can have, since there is no heap and a frame is `Copy` to callers; those of drives that
+// are not there are 0.
 #[derive(Clone, Copy)]
 pub struct Frame {
     pages: u16,

@@ -1,9 +1,9 @@
-// Keeping the later of two values, for every kind of value under every total order.
+// Keeping the later of two values, for every kind of value whose order tells different values apart.
 //
 // Recovery meets values in any order, since the logs are never merged, and keeps in each place of the caller's slice
 // the later of two. So in the end each place has the latest of what came to it, whatever the order and however often
-// each value came. `KeepsTheLatest` says so, and `keep_later` is proved to do it for every kind of value that has a
-// total order.
+// each value came. `KeepsTheLatest` says so, and `keep_later` is proved to do it for every kind of value with such an
+// order.
 //
 // Two kinds are kept so: the commit number of each set, of which the larger stays, and the marks of the page bytes, of
 // which the one with the larger stamp stays.

@@ -44,7 +44,7 @@ slot_at k i = record { settled = cond (slice_index k.marks i == 0) None (Some (b
 abbrev pub place_of : Kept → ℕ → ℕ → ℕ
 place_of k d b = before k.shape d + b
 
--- where the memory does not fit the shape, the rack shows no drives
+-- what does not fit shows no drives; no rack keeps such a thing, since its type says that it fits
 abbrev pub shown : Kept → Meaning
 shown k = record {
   count = cond (fitting k) (drives_in k.shape) 0;

@@ -1,10 +1,9 @@
 // The plain store: what each call answers, which strokes it makes and what state it leaves, as definitions.
 //
-// The code never runs these definitions. The contracts of its calls cite them (those of begin, change and commit
-// are still to come), so a reader who wants to know what
-// a call does reads them here, in specs/, and holds them against docs/FORMATS.md and docs/REFUSALS.md. What is
-// said above them in the subject's words (what stands after a format) is proved of the same definitions. Beside
-// them stand the refusals, and the one way to read a block.
+// The code never runs these definitions. The contracts of its calls cite them (those of begin, change and commit are
+// still to come), so a reader who wants to know what a call does reads them here, in specs/, and holds them against
+// docs/FORMATS.md and docs/REFUSALS.md. What is said above them in the subject's words (what stands after a format) is
+// proved of the same definitions. Beside them stand the refusals, and the one way to read a block.
 #![tactic(auto)]
 
 ghost use Rattle.std.specs.Prelude.{◌≡◌};

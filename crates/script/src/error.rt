@@ -6,7 +6,7 @@ use std::alloc::{AllocError, AllocFailed};
 
 #[derive(Clone, Copy, Debug, PartialEq, Eq)]
 pub enum ParseError {
-    // no command is said so
+    // the line says no command
     Unknown,
     OutOfMemory(AllocError),
 }

@@ -83,7 +83,7 @@ impl<'a> Words<'a> {
         Ok(numbers)
     }
 
-    // That no word is left.
+    // Fails where a word is left.
     pub fn end(mut self) -> Result<(), ParseError>
         ensures { result ≡ ok_or (end tt (ahead self.entry)) Unknown }
     {
