@@ -1,13 +1,13 @@
 -- The orders that `cmp` gives are total where values that compare as equal are the same, and at numbers and marks they
 -- are the ones that the definitions name.
-use Rattle.std.proofs.Common.{◌≡◌, ℕ, Bool, nat_le, nat_cmp, List, get_or, ap, arith, rules}
+use Rattle.std.proofs.Common.{nat_le, nat_cmp, ap, arith, rules}
 use Rattle.std.proofs.lemmas.Bool.Decides.{nat_tests}
 use Rattle.std.specs.Cmp.{IsTotalOrder, tied_itself, upto}
 use Rattle.std.specs.declared.cmp.Ordering.{Ordering}
 use Rattle.std.specs.Ordering.{is_le}
 use Rattle.later.specs.contracts.MarkOrd.TheImpl.{ghosts}
 use Rattle.later.specs.Order.{TellsApart, TotalOrder, upto_by}
-use Rattle.later.specs.Keeping.{kept_later, KeepsTheLatest, KeptBy}
+use Rattle.later.specs.Keeping.{KeepsTheLatest, KeptBy}
 use Rattle.later.specs.Stamps.{mark_upto}
 use Rattle.later.specs.Fields.{numbers_ordered}
 use Rattle.later.specs.Marks.{marks_ordered}
@@ -30,7 +30,3 @@ numbers_kept = record { order = numbers_ordered; same = λ x y. grind (arith, na
 
 pub marks_kept : KeptBy ghosts.cmp mark_upto
 marks_kept = record { order = marks_ordered; same = λ m n. grind (arith, nat_tests); lawful = keeps_the_latest marks_ordered }
-
--- orders that agree keep the same
-pub kept_later_same : {V : Type 0} {f g : V → V → Bool} → ((x y : V) → f x y ≡ g x y) → (l : List V) (i : ℕ) (x : V) → kept_later f l i x ≡ kept_later g l i x
-kept_later_same same l i x = let e = same (get_or l i x) x in search rules

@@ -11,20 +11,20 @@ abbrev before : ℕ → ℕ → Stamp
 before drive block = Before (record { drive = drive; block = block })
 
 abbrev after : ℕ → ℕ → ℕ → ℕ → ℕ → Stamp
-after commit set step drive block = After (record { commit = commit; set = set; step = step; place = record { drive = drive; block = block } })
+after commit set step drive block = After commit set step (record { drive = drive; block = block })
 
 -- stamps of two kinds differ in the class
 pub one_stamp : (s t : Stamp) → stamp_fields s ≡ stamp_fields t → s ≡ t
 one_stamp Drive Drive e = refl
 one_stamp Drive (Before p) e = cc
-one_stamp Drive (After c) e = cc
+one_stamp Drive (After n s t p) e = cc
 one_stamp (Before p) Drive e = cc
 one_stamp (Before p) (Before q) e = let r : before p.drive p.block ≡ before q.drive q.block = cc in r
-one_stamp (Before p) (After c) e = cc
-one_stamp (After c) Drive e = cc
-one_stamp (After c) (Before p) e = cc
-one_stamp (After c) (After d) e =
-    let r : after c.commit c.set c.step c.place.drive c.place.block ≡ after d.commit d.set d.step d.place.drive d.place.block = cc in r
+one_stamp (Before p) (After n s t q) e = cc
+one_stamp (After n s t p) Drive e = cc
+one_stamp (After n s t q) (Before p) e = cc
+one_stamp (After n s t p) (After n' s' t' q) e =
+    let r : after n s t p.drive p.block ≡ after n' s' t' q.drive q.block = cc in r
 
 abbrev marked : Stamp → ℕ → Mark
 marked s b = record { stamp = s; byte = b }

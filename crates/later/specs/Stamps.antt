@@ -12,7 +12,7 @@ use Rattle.later.specs.Order.{by_fields}
 abbrev pub stamp_fields : Stamp → List ℕ
 stamp_fields Drive = 0 ∷ []
 stamp_fields (Before p) = 1 ∷ p.drive ∷ p.block ∷ []
-stamp_fields (After c) = 2 ∷ c.commit ∷ c.set ∷ c.step ∷ c.place.drive ∷ c.place.block ∷ []
+stamp_fields (After commit set step p) = 2 ∷ commit ∷ set ∷ step ∷ p.drive ∷ p.block ∷ []
 
 -- the mark with the larger stamp is the later; changes in different blocks never have equal stamps, and that equal
 -- stamps rank by the byte makes this a total order on all marks

@@ -1,54 +1,77 @@
-// Keeping the later of two values, for every kind of value whose order tells different values apart.
+// Keeping the later of two values, for every kind of value under every total order.
 //
 // Recovery meets values in any order, since the logs are never merged, and keeps in each place of the caller's slice
 // the later of two. So in the end each place has the latest of what came to it, whatever the order and however often
-// each value came. `KeepsTheLatest` says so, and `keep_later` is proved to do it for every kind of value with such an
-// order.
+// each value came. `KeepsTheLatest` says so, and `keep_later` is proved to do it for every kind of value that has a
+// total order.
 //
 // Two kinds are kept so: the commit number of each set, of which the larger stays, and the marks of the page bytes, of
-// which the one with the larger stamp stays.
+// which the one with the larger stamp stays. Both rank by the library's order of their types.
 #![tactic(auto)]
 
 ghost use Rattle.std.specs.Prelude.{◌≡◌, Bool, nat_le};
-ghost use Rattle.later.specs.Order.{TellsApart, upto_by};
+ghost use Rattle.later.specs.Order.{TotalOrder, TellsApart, upto_by};
 ghost use Rattle.later.specs.Keeping.{kept_later, KeepsTheLatest, KeptBy};
 ghost use Rattle.later.specs.Stamps.{mark_upto};
-ghost use Rattle.later.specs.Apart.{numbers_apart, marks_apart};
+ghost use Rattle.later.specs.Fields.{numbers_ordered};
+ghost use Rattle.later.specs.Marks.{marks_ordered};
 
-// A kind of value whose order tells different values apart. The library's `Ord` is a total order already; with this law
-// it is one of the values themselves.
-pub trait Ranked: Ord + Copy {
-    ghost apart: { TellsApart Self.cmp };
+// A kind of value with a total order: `upto x y` says that `x` is no later than `y`.
+pub trait Ranked {
+    ghost upto: { Self → Self → Bool };
+
+    // Whether this value is no later than the other.
+    fn is_upto(&self, other: &Self) -> bool
+        ensures { result ≡ upto self.now other.now };
+
+    ghost order: { TotalOrder upto };
 }
 
-// Commit numbers: the larger is the later.
-impl Ranked for u8 {
-    ghost apart = { numbers_apart };
-}
-
-// Marks: the one with the larger stamp is the later.
-impl Ranked for Mark {
-    ghost apart = { marks_apart };
-}
-
-// Whether a value is no later than the other.
+// Whether a value is no later than the other, by the order of its type. Where that order tells different values apart, it
+// is one to keep them by; those of commit numbers and of marks do.
+#[tactic(auto, using(crate::specs::Apart::numbers_apart, crate::specs::Apart::marks_apart))]
 pub fn is_upto<T: Ord>(x: &T, other: &T) -> bool
-    ensures { result ≡ upto_by T.cmp x.now other.now }
+    ensures value { result ≡ upto_by T.cmp x.now other.now }
+    ensures lawful { TellsApart T.cmp → KeepsTheLatest (upto_by T.cmp) }
+    ensures numbers { TellsApart ⟦<u8 as Ord>⟧.cmp }
+    ensures marks { TellsApart ⟦<Mark as Ord>⟧.cmp }
 {
     x <= other
 }
 
+// Commit numbers: the larger is the later.
+impl Ranked for u8 {
+    ghost upto = { nat_le };
+
+    ghost order = { numbers_ordered };
+
+    fn is_upto(&self, other: &u8) -> bool {
+        *self <= *other
+    }
+}
+
+// Marks: the one with the larger stamp is the later.
+impl Ranked for Mark {
+    ghost upto = { mark_upto };
+
+    ghost order = { marks_ordered };
+
+    fn is_upto(&self, other: &Mark) -> bool {
+        is_upto(self, other)
+    }
+}
+
 // Keeps in one place of the slice the later of what is there and the new value. A place past the end changes
-// nothing.
+// nothing. Commit numbers and marks rank by the library's order of their types.
 #[tactic(auto, using(crate::proofs::Derived::numbers_kept, crate::proofs::Derived::marks_kept))]
-pub fn keep_later<T: Ranked>(kept: &mut [T], at: usize, new: T)
-    ensures after { kept.new ≡ kept_later (upto_by T.cmp) kept.old at new }
-    ensures lawful { KeepsTheLatest (upto_by T.cmp) }
+pub fn keep_later<T: Ranked + Copy>(kept: &mut [T], at: usize, new: T)
+    ensures after { kept.new ≡ kept_later T.upto kept.old at new }
+    ensures lawful { KeepsTheLatest T.upto }
     ensures numbers { KeptBy ⟦<u8 as Ord>⟧.cmp nat_le }
     ensures marks { KeptBy ⟦<Mark as Ord>⟧.cmp mark_upto }
 {
     // by the index: of a write through `get_mut` the proof learns nothing
-    if at < kept.len() && is_upto(&kept[at], &new) {
+    if at < kept.len() && kept[at].is_upto(&new) {
         kept[at] = new;
     }
 }
@@ -60,17 +83,10 @@ pub struct Place {
     pub block: u16,
 }
 
-// A change whose set has a commit number. Its fields are declared in the order in which they count.
-#[derive(Clone, Copy, Debug, PartialEq, Eq, PartialOrd, Ord)]
-pub struct Committed {
-    pub commit: u8,
-    pub set: u8,
-    pub step: u32,
-    pub place: Place,
-}
-
 // Where a byte of a page comes from. Stamps of different kinds rank in the order of the kinds here, and stamps of
-// one kind by their fields, the first in which they differ: that is the derived order.
+// one kind by their fields, the first in which they differ: that is the derived order. The fields of a kind stand in the
+// kind itself: in a struct of their own they would make a mark, of which a caller lends one for each page byte, a quarter
+// larger.
 #[derive(Clone, Copy, Debug, PartialEq, Eq, PartialOrd, Ord)]
 pub enum Stamp {
     // the drive's own byte
@@ -78,7 +94,12 @@ pub enum Stamp {
     // the before byte of a change whose set has no commit number
     Before(Place),
     // the after byte of a change whose set has one
-    After(Committed),
+    After {
+        commit: u8,
+        set: u8,
+        step: u32,
+        place: Place,
+    },
 }
 
 // A byte of a page with its stamp.

@@ -12,7 +12,7 @@ ghost use Rattle.logs.specs.Scans.{offers_of};
 
 use block::PAGE_BYTES;
 use change::{Change, Pair};
-use later::{Committed, Mark, Place, Stamp, keep_later};
+use later::{Mark, Place, Stamp, keep_later};
 
 // Offers bytes to the places from `at` on, all with one stamp.
 fn apply_run(marks: &mut [Mark], at: usize, stamp: Stamp, bytes: &[u8])
@@ -54,13 +54,13 @@ pub(crate) fn apply_change(
     let (stamp, bytes) = if commit == 0 {
         (Stamp::Before(place), change.before)
     } else {
-        let committed = Committed {
+        let stamp = Stamp::After {
             commit,
             set: change.set,
             step: change.step,
             place,
         };
-        (Stamp::After(committed), change.after)
+        (stamp, change.after)
     };
     apply_pairs(marks, start, stamp, change.pairs(), bytes);
 }

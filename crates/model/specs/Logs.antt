@@ -78,7 +78,7 @@ abbrev pub stamp_of : List ℕ → ℕ → ℕ → Content → Stamp
 stamp_of numbers d b v =
     let place : Place = record { drive = d; block = b } in
     let commit = slice_index numbers v.set in
-    cond (commit == 0) (Before place) (After (record { commit = commit; set = v.set; step = v.step; place = place }))
+    cond (commit == 0) (Before place) (After commit v.set v.step place)
 
 abbrev pub image_of : List ℕ → Content → List ℕ
 image_of numbers v = cond (slice_index numbers v.set == 0) v.before v.after
