@@ -22,7 +22,7 @@ module _ (k j : Kept) (d b i : ℕ) (o : Option Block) (l : Lies k d b i) (t : T
   touches_reads = record {
     alike = record { count = rw (t.shape, t.marks, t.bytes) refl; size = λ e. rw t.shape refl };
     here = rw t.shape (subst (λ n. (slot_at j n).settled ≡ o) l.place t.here);
-    others = λ e c p q ne. rw t.shape (t.others (place_of k e c) (λ h. ne (same_place k.shape d b e c l.block q (h ∙ l.place))));
+    others = λ e c p q ne. rw t.shape (t.others (place_of k e c) (λ h. ne (same_place k.shape.sizes d b e c l.block q (h ∙ l.place))));
   }
 
 module _ (k : Kept) (d b i : ℕ) (l : Lies k d b i) where

@@ -1,10 +1,11 @@
 -- Where the blocks lie: each in a place of its own, inside the memory.
-use Rattle.std.proofs.Common.{◌≡◌, ℕ, ◌+◌, ◌*◌, ◌<◌, ◌≤◌, true, List, length, get_or, sum, take, Ok, refl, ap, ⊎_elim, arith}
+use Rattle.std.proofs.Common.{◌≡◌, ℕ, ◌+◌, ◌*◌, ◌<◌, ◌≤◌, true, List, length, get_or, sum, take, IfOk, Ok, Err, Result, refl, ap, ⊎_elim, arith}
 use Rattle.std.proofs.lemmas.Bool.{cases_lt}
 use Rattle.std.proofs.lemmas.Bool.Decides.{nat_tests}
 use Rattle.std.proofs.lemmas.List.{take_all, take-take, get_or_past}
-use Rattle.std.proofs.lemmas.List.Sums.{sum_by_more, sum_by_more_le, sum_by-take-le}
+use Rattle.std.proofs.lemmas.List.Sums.{sum_by_more, sum_by-take-le}
 use Rattle.std.specs.Option.{ok_or}
+use Rattle.rack.specs.declared.RackFault.{RackFault}
 use Rattle.rack.specs.declared.RackFault.TheVariants.{NoPlace}
 use Rattle.rack.specs.Answers.{within}
 use Rattle.rack.specs.Shapes.{drives_in, before, total_in}
@@ -39,7 +40,7 @@ shown_lies k d b t =
     let r : b < (shown k).size d = grind (arith, nat_tests) in
     let m : length k.marks ≡ total_in k.shape = grind (arith, nat_tests) in
     let w : length k.bytes ≡ 512 * total_in k.shape = grind (arith, nat_tests) in
-    let e = sum_by_more_le (λ x. x) k.shape d 0 q in
+    let e = before_end k.shape.sizes d (drives_in k.shape) q in
     record { shows = t; block = r; place = refl; marked = omega arith; whole = omega arith }
 
 -- the same, from the place that was found
@@ -48,3 +49,8 @@ found_lies k d b i h =
     let t : within (shown k) d b ≡ true = grind (arith, nat_tests) in
     let p : i ≡ place_of k d b = grind (arith, nat_tests) in
     rw p (shown_lies k d b t)
+
+-- a place that is found is inside the memory
+pub found_inside : (k : Kept) (d b : ℕ) (r : Result ℕ RackFault) → r ≡ ok_or (placed k d b) NoPlace → IfOk r (λ i. (i < length k.marks) × (512 * i + 512 ≤ length k.bytes))
+found_inside k d b (Ok i) h = let l = found_lies k d b i h in (l.marked, l.whole)
+found_inside k d b (Err f) h = tt

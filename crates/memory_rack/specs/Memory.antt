@@ -42,7 +42,7 @@ abbrev pub slot_at : Kept → ℕ → Slot
 slot_at k i = record { settled = cond (slice_index k.marks i == 0) None (Some (block_at k.bytes i)); pending = [] }
 
 abbrev pub place_of : Kept → ℕ → ℕ → ℕ
-place_of k d b = before k.shape d + b
+place_of k d b = before k.shape.sizes d + b
 
 -- what does not fit shows no drives; no rack keeps such a thing, since its type says that it fits
 abbrev pub shown : Kept → Meaning

@@ -1,3 +1,2 @@
 pub mod Settling
 pub mod Outcomes
-pub mod Padding

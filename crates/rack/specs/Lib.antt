@@ -1,5 +1,4 @@
 pub mod Meaning
 pub mod Cut
 pub mod Answers
-pub mod Sizes
 pub mod Shapes

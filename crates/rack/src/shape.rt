@@ -1,37 +1,22 @@
 // The shape of a rack: how many blocks each of its drives has, and where a block lies when all blocks of all
 // drives are counted through in order.
-ghost use Rattle.std.specs.Prelude.{◌≡◌, ◌*◌, ◌≤◌, length, sum, MatchResult};
+ghost use Rattle.std.specs.Prelude.{◌≡◌, ◌*◌, ◌≤◌, length, take, sum, MatchResult};
+ghost use Rattle.rack.specs.Shapes.{LegalShape, HoldsSizes, drives_in, size_answer, total_in, place_in};
 ghost use Rattle.rack.specs.declared.RackFault.TheVariants.{BadShape};
 
 use crate::RackFault;
-use std::marker::Model;
 
 // The most drives that a rack has.
 const MOST_DRIVES: usize = 10;
 
-// At most 10 drives, of at most 65,535 blocks each. In contracts a shape is the list of its drives' sizes, drive 0 first.
-// The sizes are an array with their count beside it, since there is no heap and a shape is `Copy` to callers. A model and
-// no ghost field says what the two keep to: a struct that lies beside a `&mut`, as a rack's shape does, can have no ghost field.
+// At most 10 drives, of at most 65,535 blocks each; the sizes of drives that are not there are 0. The sizes are an array
+// with their count beside it, since there is no heap and a shape is `Copy` to callers. A count above 10 is read as 10 and
+// not ruled out: a struct that lies beside a `&mut`, as a rack's shape does, can have no ghost field, and a struct with a
+// model would not be copied with what holds it.
 #[derive(Clone, Copy, Debug)]
 pub struct Shape {
     sizes: [u16; MOST_DRIVES],
     count: u16,
-}
-
-impl Model for Shape {
-    ghost use Rattle.std.specs.Prelude.{List, ℕ, length, take};
-    ghost use Rattle.std.proofs.Common.{sym, ap₂};
-    ghost use Rattle.rack.specs.Sizes.{Padded, padded};
-
-    ghost Value = { List ℕ };
-
-    ghost view = { λ s. take s.count s.sizes };
-
-    ghost invariant = { λ s. Padded s.sizes s.count };
-
-    ghost inverse = { λ sizes. record { sizes = padded sizes; count = length sizes } };
-
-    ghost inverse_ok = { λ s h. ap₂ (λ sizes count. record { sizes = sizes; count = count }) (sym h.fill) h.full };
 }
 
 // How many blocks drives of these sizes have.
@@ -44,10 +29,7 @@ fn blocks_in(sizes: &[u16]) -> usize
 }
 
 impl Shape {
-    ghost use Rattle.rack.specs.Shapes.{LegalShape, HoldsSizes, drives_in, size_answer, total_in, place_in};
-
     // A shape of these sizes, drive 0 first; refused where there are more than 10 or one is over 65,535.
-    #[tactic(auto, using(crate::proofs::Padding::padded_more, crate::proofs::Padding::padded_front, crate::proofs::Padding::padded_is))]
     pub fn new(sizes: &[u32]) -> Result<Shape, RackFault>
         ensures { MatchResult result (λ s. LegalShape sizes.now × HoldsSizes sizes.now s) (λ f. (LegalShape sizes.now → ⊥) × (f ≡ BadShape)) }
     {
@@ -67,17 +49,17 @@ impl Shape {
 
     // The blocks of each drive, drive 0 first.
     fn sizes(&self) -> &[u16]
-        ensures sizes { result.now ≡ self.now }
+        ensures sizes { result.now ≡ take (drives_in self.now) self.now.sizes }
         ensures few { length result.now ≤ 10 }
     {
-        &self.sizes[..usize::from(self.count)]
+        &self.sizes[..usize::from(self.drives())]
     }
 
     // How many drives there are.
     pub fn drives(&self) -> u16
         ensures { result ≡ drives_in self.now }
     {
-        self.count
+        self.count.min(10)
     }
 
     // How many blocks a drive has.
