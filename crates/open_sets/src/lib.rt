@@ -1,17 +1,19 @@
 // The open sets of a warm store, in the order in which they were begun.
 //
-// There are at most 8, in a vector of that capacity, which lies in the value itself. Each call is promised by the list
-// of open sets. No call asks anything of its caller: a ninth set is not added, and a number that is not open names no
-// set.
+// There are at most 8, at the front of an array, with a count. A set that ends leaves no gap, so the front is the list of
+// open sets at any time, and each call is promised by that list. No call asks anything of its caller: a ninth set is not
+// added, and a number that is not open names no set.
 #![tactic(auto)]
 
-ghost use Rattle.std.specs.Prelude.{◌≡◌, ◌==◌, position, ◌<◌, ◌≤◌, ◌⊎◌, [], ◌∷◌, ◌++◌, length, if◌then◌else◌, Some, None};
+ghost use Rattle.std.specs.Prelude.{◌≡◌, ◌==◌, position, ◌<◌, ◌≤◌, ◌⊎◌, [], ◌∷◌, ◌++◌, length, take, if◌then◌else◌, Some, None};
 ghost use Rattle.std.specs.Option.{option_map};
 ghost use Rattle.model.specs.Sets.{is_open, set_of, without, stepped, stepping};
 ghost use Rattle.model.specs.Warming.{new_set};
 
-use arrayvec::ArrayVec;
 use drive_set::DriveSet;
+
+// The most sets that are open.
+const MOST_SETS: usize = 8;
 
 // An open set: its number, its last step, and the log drives that hold a record of it.
 #[derive(Clone, Copy, PartialEq, Eq, Default, Debug)]
@@ -21,10 +23,13 @@ pub struct OpenSet {
     pub uses: DriveSet,
 }
 
-// The open sets.
-#[derive(Drop)]
+// The first `count` are the open sets; what stands behind them does not count. They stand in an array with their count
+// beside it, since there is no heap and the open sets are `Copy` to callers, which the kit's vector is not.
+#[derive(Clone, Copy)]
 pub struct OpenSets {
-    sets: ArrayVec<OpenSet, 8>,
+    sets: [OpenSet; MOST_SETS],
+    count: u8,
+    ghost few: { count ≤ 8 },
 }
 
 impl OpenSet {
@@ -54,8 +59,7 @@ impl OpenSet {
     }
 }
 
-// Where the first set of a number stands. It takes a slice, since the check follows a chain from a slice and not from
-// the vector.
+// Where the first set of a number stands.
 fn place(sets: &[OpenSet], number: u16) -> Option<usize>
     ensures { result ≡ position (λ set. set.number == number) sets.now }
 {
@@ -70,8 +74,17 @@ impl OpenSets {
         ensures { sets_in result ≡ [] }
     {
         OpenSets {
-            sets: ArrayVec::new(),
+            sets: [OpenSet::new(0); MOST_SETS],
+            count: 0,
         }
+    }
+
+    // The open sets, as the front of the array.
+    fn as_slice(&self) -> &[OpenSet]
+        ensures front { result.now ≡ take self.now.count self.now.sets }
+        ensures count { length result.now ≡ self.now.count }
+    {
+        &self.sets[..usize::from(self.count)]
     }
 
     // How many sets are open.
@@ -79,14 +92,14 @@ impl OpenSets {
         ensures value { result ≡ length (sets_in self.now) }
         ensures most { result ≤ 8 }
     {
-        self.sets.len() as u8
+        self.as_slice().len() as u8
     }
 
     // The open set of a number, if there is one.
     pub fn find(&self, number: u16) -> Option<OpenSet>
         ensures { option_map set_in result ≡ (if is_open (sets_in self.now) number then Some (set_of (sets_in self.now) number) else None) }
     {
-        let i = place(&self.sets, number)?;
+        let i = place(self.as_slice(), number)?;
         Some(self.sets[i])
     }
 
@@ -95,8 +108,10 @@ impl OpenSets {
         ensures adds { length (sets_in self.old) < 8 → sets_in self.new ≡ sets_in self.old ++ (new_set number ∷ []) }
         ensures full { 8 ≤ length (sets_in self.old) → self.new ≡ self.old }
     {
-        if !self.sets.is_full() {
-            self.sets.push(OpenSet::new(number));
+        let end = usize::from(self.count);
+        if end < MOST_SETS {
+            self.sets[end] = OpenSet::new(number);
+            self.count += 1;
         }
     }
 
@@ -106,7 +121,7 @@ impl OpenSets {
         ensures steps { drive < 16 → (set_of (sets_in self.old) number).steps < 4294967295 → sets_in self.new ≡ stepping (sets_in self.old) number drive }
         ensures rests { (16 ≤ drive) ⊎ (4294967295 ≤ (set_of (sets_in self.old) number).steps) → sets_in self.new ≡ sets_in self.old }
     {
-        if let Some(i) = place(&self.sets, u16::from(number)) {
+        if let Some(i) = place(self.as_slice(), u16::from(number)) {
             self.sets[i].take_step(drive);
         }
     }
@@ -115,6 +130,15 @@ impl OpenSets {
     pub fn end(&mut self, number: u8)
         ensures { sets_in self.new ≡ without (sets_in self.old) number }
     {
-        self.sets.retain(|set| set.number != number);
+        // in place, by the index: an array has no `retain`
+        let mut kept = 0;
+        for i in 0..usize::from(self.count) {
+            let set = self.sets[i];
+            if set.number != number {
+                self.sets[kept] = set;
+                kept += 1;
+            }
+        }
+        self.count = kept as u8;
     }
 }

@@ -14,9 +14,9 @@ use Rattle.warm.specs.declared.Warm.{Warm}
 
 abbrev pub warm_in : Warm → store.Warm
 warm_in w = record {
-  shape = shape_in w.space.frame;
+  shape = shape_in w.frame;
   round = w.round;
-  page = pages_in w.space.frame.pages w.pages;
+  page = pages_in w.frame.pages w.pages;
   filled = used_in w.space;
   turn = w.space.turn;
   begun = w.begun;

@@ -15,9 +15,10 @@ use pages::Page;
 // A store that takes changes.
 #[derive(Drop)]
 pub struct Warm {
+    frame: Frame,
     round: u32,
     pages: [Page; 64],
-    // the store's shape, the log blocks that are used in this round, and the turn
+    // the log blocks that are used in this round, and the turn
     space: LogSpace,
     // how many sets were begun and how many committed in this round
     begun: u8,
@@ -33,9 +34,10 @@ impl Warm {
         ensures { warm_in result ≡ fresh_warm frame round pages }
     {
         Warm {
+            frame,
             round,
             pages,
-            space: LogSpace::fresh(frame),
+            space: LogSpace::fresh(),
             begun: 0,
             commits: 0,
             sets: OpenSets::none(),

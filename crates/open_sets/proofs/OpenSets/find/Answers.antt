@@ -1,4 +1,4 @@
-use Rattle.std.proofs.Common.{◌≡◌, None, ap, ◌∙◌, rules}
+use Rattle.std.proofs.Common.{◌≡◌, None, take, ap, ◌∙◌, rules, arith}
 use Rattle.std.specs.Option.{option_map}
 use Rattle.open_sets.specs.Views.{set_in}
 use Rattle.open_sets.proofs.Numbers.{at_place, not_found}
@@ -6,8 +6,9 @@ use Rattle.open_sets.proofs.OpenSets.find.Goals as goal
 
 pub returns-in_err-i : goal.returns-in_err-i
 returns-in_err-i c =
+    let o = c.args.self.now in
     let none : c.from_residual.result ≡ None = search rules in
-    ap (option_map set_in) none ∙ not_found c.args.self.now.sets.items c.args.number (search rules)
+    ap (option_map set_in) none ∙ not_found (take o.count o.sets) c.args.number (search rules)
 
 pub returns : goal.returns
-returns c = (at_place c.args.self.now.sets.items c.deref-2.result.now c.args.number c.in_ok-i.i (search rules) (search rules)).found
+returns c = let o = c.args.self.now in (at_place o.sets o.count (omega arith) c.args.number c.in_ok-i.i (search rules)).found
