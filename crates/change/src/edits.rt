@@ -28,21 +28,18 @@ fn gather_runs(pairs: &[Pair], content: &[u8; PAGE_BYTES], joined: &mut [u8; PAG
     at
 }
 
-// The bytes of a page's content in the runs of the pairs, joined in a buffer; none where the pairs cannot stand in a change.
-pub fn gather<'a>(
-    pairs: &[Pair],
-    content: &[u8; PAGE_BYTES],
-    joined: &'a mut [u8; PAGE_BYTES],
-) -> &'a [u8]
-    ensures value { result.now ≡ (if well_paired pairs.now then gathered pairs.now content.now else []) }
-    ensures count { length result.now ≡ (if well_paired pairs.now then sum_of pairs.now else 0) }
-    ensures most { length result.now ≤ 240 }
+// The bytes of a page's content in the runs of the pairs, joined at the front of a buffer; answers how many there are: none
+// where the pairs cannot stand in a change. It answers no part of the buffer: of what it lent on, the caller's buffer would
+// be known no more.
+pub fn gather(pairs: &[Pair], content: &[u8; PAGE_BYTES], joined: &mut [u8; PAGE_BYTES]) -> usize
+    ensures count { result ≡ (if well_paired pairs.now then sum_of pairs.now else 0) }
+    ensures most { result ≤ 240 }
+    ensures front { take result joined.new ≡ (if well_paired pairs.now then gathered pairs.now content.now else []) }
 {
     if total(pairs).is_none() {
-        return &[];
+        return 0;
     }
-    let n = gather_runs(pairs, content, joined);
-    &joined[..n]
+    gather_runs(pairs, content, joined)
 }
 
 // Puts joined bytes into the runs of pairs that stand in order.

@@ -81,14 +81,14 @@ impl Page {
     {
         let held = Pairs::new(pairs)?;
         let mut joined = [0; PAGE_BYTES];
-        let before = gather(pairs, &self.committed, &mut joined);
+        let n = gather(pairs, &self.committed, &mut joined);
         Change {
             page: entry.page,
             round: entry.round,
             set: entry.set,
             step: entry.step,
             pairs: held,
-            before,
+            before: &joined[..n],
             after: bytes,
         }
         .block()
