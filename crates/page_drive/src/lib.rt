@@ -4,11 +4,11 @@
 // can be read, and only then are the pages read into the marks, one for each page byte.
 #![tactic(auto)]
 
-ghost use Rattle.std.specs.Prelude.{◌≡◌, suc, Some, not, length};
-ghost use Rattle.page_drive.specs.Pages.{CanRead};
+ghost use Rattle.std.specs.Prelude.{◌≡◌, suc, ◌+◌, ◌*◌, ◌<◌, ◌≤◌, false, not, map, length};
+ghost use Rattle.page_drive.specs.Pages.{pasted, CanRead};
 ghost use Rattle.model.specs.Store.{some_of};
 ghost use Rattle.model.specs.Logs.{value_at};
-ghost use Rattle.model.specs.Recovery.{head_on, is_none, page_marks, drive_marks};
+ghost use Rattle.model.specs.Recovery.{head_on, is_none, drive_mark, page_marks, drive_marks};
 
 use block::{Head, PAGE_BYTES, page_content};
 use later::{Mark, Stamp};
@@ -30,14 +30,29 @@ pub fn are_readable<R: Rack>(rack: &R, pages: u16) -> bool
     (0..pages).all(|page| read_block(rack, 0, page + 1).is_some())
 }
 
-// The marks of the page in this block, each with the stamp of a drive's own byte.
-fn page_marks(block: &[u8; 512]) -> [Mark; PAGE_BYTES]
-    ensures { result ≡ page_marks (Some block.now) }
+// Writes bytes as marks over others, from a place on, each with the stamp of a drive's own byte. By the index and in place:
+// of marks that an iterator lends nothing is known after the loop, and an array of marks would be made to be copied.
+fn fill(marks: &mut [Mark], at: usize, bytes: &[u8])
+    requires { at + length bytes.now ≤ length marks.old }
+    ensures { marks.new ≡ pasted marks.old at (map drive_mark bytes.now) }
 {
-    page_content(block).map(|byte| Mark {
-        stamp: Stamp::Drive,
-        byte,
-    })
+    for (i, byte) in bytes.iter().enumerate() {
+        marks[at + i] = Mark {
+            stamp: Stamp::Drive,
+            byte: *byte,
+        };
+    }
+}
+
+// Reads a page into its marks; where it cannot be read, the marks stay.
+fn read_page<R: Rack>(rack: &R, page: u16, marks: &mut [Mark])
+    requires { (page < 64) × (240 * page + 240 ≤ length marks.old) }
+    ensures after { marks.new ≡ pasted marks.old (240 * page) (page_marks (value_at (R.Rack.meaning rack.now) 0 (suc page))) }
+    ensures whole { is_none (value_at (R.Rack.meaning rack.now) 0 (suc page)) ≡ false → length (page_marks (value_at (R.Rack.meaning rack.now) 0 (suc page))) ≡ 240 }
+{
+    if let Some(block) = read_block(rack, 0, page + 1) {
+        fill(marks, PAGE_BYTES * page as usize, page_content(&block));
+    }
 }
 
 // Reads the pages into the marks, where there is a mark for each byte of each page and every page can be read.
@@ -49,11 +64,6 @@ pub fn read_pages<R: Rack>(rack: &R, pages: u16, marks: &mut [Mark])
         return;
     }
     for page in 0..pages {
-        let Some(block) = read_block(rack, 0, page + 1) else {
-            return;
-        };
-        // by places: of marks that chunks_exact_mut or iter_mut().zip(..) lends, nothing is known after the loop
-        let first = PAGE_BYTES * page as usize;
-        marks[first..first + PAGE_BYTES].copy_from_slice(&page_marks(&block));
+        read_page(rack, page, marks);
     }
 }
