@@ -11,7 +11,7 @@ use console::{Order, Station, Step};
 use rack::shape::Shape;
 use script::answers::Answer;
 use std::alloc::Global;
-use std::io::{BufRead, Split};
+use std::io::{BufRead, BufReader, Split};
 
 // Answers lines up to the end of the input, or up to one that asks for a new rack.
 fn serve<B: BufRead + Drop>(
@@ -50,8 +50,9 @@ fn build<B: BufRead + Drop>(
 }
 
 // Before the first command `rack` there is a rack with no drives.
-fn run(rt: &(impl Input + Print + Alloc<A = Global>)) -> anyhow::Result<()> {
-    let mut lines = rt.reader().split(rt.alloc(), b'\n');
+fn run(rt: &HostRuntime) -> anyhow::Result<()> {
+    // with a buffer before it: the runtime's own reader takes a byte at a time from a pipe
+    let mut lines = BufReader::new(rt.alloc(), rt.stdin())?.split(rt.alloc(), b'\n');
     let shape = Shape::new(&[]).map_err(|_| anyhow!("no shape without drives"))?;
     let mut station = Station::new(Order { shape, left: 0 }, &mut [], &mut []).map_err(|_| anyhow!(
         "a rack without drives needs memory"

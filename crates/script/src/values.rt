@@ -1,7 +1,5 @@
 // What a word says, where a number or bytes are wanted.
 ghost use Rattle.std.specs.Prelude.{◌≡◌, vec_items};
-ghost use Rattle.std.specs.Char.{is_ascii_digit};
-ghost use Rattle.std.specs.List.{list_all};
 ghost use Rattle.script.specs.Values.{number_in, digit_in, byte_in, hex_in};
 ghost use Rattle.script.specs.Reader.{Says};
 
@@ -11,21 +9,17 @@ use std::alloc::Global;
 // The most digits that a number has, leading zeros among them.
 const MOST_DIGITS: usize = 10;
 
-// Whether all of a word is decimal digits.
-fn is_digits(word: &[u8]) -> bool
-    ensures { result ≡ list_all is_ascii_digit word.now }
-{
-    word.iter().all(|c| c.is_ascii_digit())
-}
-
 // The number that a word is: one to ten digits, and no more than a u32 holds.
 pub fn number(word: &[u8]) -> Option<u32>
     ensures { result ≡ number_in word.now }
 {
-    if word.len() > MOST_DIGITS || !is_digits(word) {
+    if word.is_empty() || word.len() > MOST_DIGITS {
         return None;
     }
-    str::from_utf8(word).ok()?.parse().ok()
+    word.iter().try_fold(0u32, |n, c| match c {
+        b'0'..=b'9' => n.checked_mul(10)?.checked_add(u32::from(c - b'0')),
+        _ => None,
+    })
 }
 
 // The worth of a capital hexadecimal digit. `char::to_digit` would take small letters too.
