@@ -57,11 +57,14 @@ impl Applying {
             logs: self.scan.frame.logs(),
         };
         let table = found_pages(marks, pages);
-        end_round(rack, head, &self.named, &table).map_err(|_| Unfinished::OutOfStrokes(Cold))?;
-        Ok(Finished {
-            store: Warm::rested(self.scan.frame, self.scan.round + 1, table),
-            sets: count_committed(&self.scan.numbers),
-            pages: self.count_named(),
-        })
+        // a `match`: with `map_err` and `?` the 31 KB of the table would lie on the stack once more
+        match end_round(rack, head, &self.named, &table) {
+            Ok(()) => Ok(Finished {
+                store: Warm::rested(self.scan.frame, self.scan.round + 1, table),
+                sets: count_committed(&self.scan.numbers),
+                pages: self.count_named(),
+            }),
+            Err(_) => Err(Unfinished::OutOfStrokes(Cold)),
+        }
     }
 }

@@ -60,7 +60,12 @@ pub fn found_pages(marks: &[Mark], pages: u16) -> [Page; PAGES]
     ensures each { (p : ℕ) → p < 64 → page_in (slice_index_or result p no_page) ≡ rest_page (table_bytes pages marks.now p) }
     ensures found { pages ≤ 64 → length marks.now ≡ pages * 240 → (p : ℕ) → pages_in pages result p ≡ rest_page (found_page pages marks.now p) }
 {
-    array::from_fn(|page| Page::resting(table_bytes(marks, pages, page as u16)))
+    // filled in place: `array::from_fn` would move the 31 KB of the table, with as much stack again for each move
+    let mut table = [Page::resting([0; PAGE_BYTES]); PAGES];
+    for (page, slot) in table.iter_mut().enumerate() {
+        *slot = Page::resting(table_bytes(marks, pages, page as u16));
+    }
+    table
 }
 
 // Flushes the log drives, 1 to `logs`.

@@ -1,16 +1,18 @@
-use Rattle.std.proofs.Common.{rules, ◌≡◌, ℕ}
+use Rattle.std.proofs.Common.{◌≢◌, ℕ, ◌<◌, length, ap, ◌∙◌, arith, get_or-set_other, get_or-set_same, below_more}
 use Rattle.model.specs.Rounds.{rest_page}
-use Rattle.pages.specs.declared.Page.{Page}
-use Rattle.pages.specs.Pages.{no_page, page_in}
-use Rattle.table.specs.Found.{table_bytes}
-use Rattle.block.proofs.FromFn.{from_fn_each}
 use Rattle.table.proofs.Finding.{pages_found}
 use Rattle.table.proofs.found_pages.Goals as goal
 
+pub loop-page-preserved : goal.loop-page-preserved
+loop-page-preserved c =
+    let t = c.loop-page.slot-items in
+    let n = c.loop-page.page in
+    let lt : n < length t = omega arith in
+    below_more _ _
+    (λ p h. let ne : p ≢ n = omega arith in rw get_or-set_other (c.loop-page.invariant p h))
+    (rw get_or-set_same (c.resting.ensures ∙ ap rest_page c.table_bytes.ensures))
+
 pub returns : goal.returns
 returns c =
-    let ks = c.args.marks.now in
-    let n = c.args.pages in
-    let made = c.from_fn.ensures.items in
-    let each = λ (p : ℕ). from_fn_each _ _ (λ (i : ℕ) (page : Page). page_in page ≡ rest_page (table_bytes n ks i)) c.from_fn.result 64 (λ i page q below called. search rules) made.each p no_page in
-    record { each = each; found = pages_found ks n c.from_fn.result each }
+    let each = λ (p : ℕ) (h : p < 64). c.loop-page.invariant p (omega arith) in
+    record { each = each; found = pages_found c.args.marks.now c.args.pages c.loop-page.slot-items each }
