@@ -58,9 +58,12 @@ impl LogSpace {
     pub fn free(&self, frame: &Frame) -> u32
         ensures { result ≡ free_in (shape_in frame.now) (used_in self.now) }
     {
-        (1..=frame.logs())
-            .map(|drive| u32::from(self.free_on(frame, drive)))
-            .sum()
+        // a loop: the sum of an iterator over `1..=logs` takes half as long again
+        let mut free = 0;
+        for log in 0..frame.logs() {
+            free += u32::from(self.free_on(frame, log + 1));
+        }
+        free
     }
 
     // Whether no block of a drive is free.

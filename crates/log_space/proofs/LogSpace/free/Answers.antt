@@ -1,25 +1,20 @@
-use Rattle.std.proofs.Common.{ℕ, ◌-◌, ◌∙◌, rules, tests, arith}
-use Rattle.std.proofs.lemmas.Iterator.{YieldsList-from_map}
-use Rattle.std.proofs.lemmas.Iterator.Consumers.{YieldsList-at, sum_from_yields_List}
-use Rattle.std.proofs.lemmas.Iterator.Adapters.{fits_from_length, at_most_from_yields_List}
-use Rattle.std.proofs.lemmas.List.FromFn.{length-range_with_len}
-use Rattle.model.specs.Room.{free_in}
+use Rattle.std.proofs.Common.{◌≡◌, ℕ, ◌+◌, ◌-◌, ap, ◌∙◌, ap₂, add-one, arith}
+use Rattle.model.specs.Room.{sum_logs, free_in}
 use Rattle.frame.specs.Frames.{shape_in}
 use Rattle.log_space.specs.Views.{used_in}
-use Rattle.log_space.proofs.Summing.{YieldsList-one_to, sum_is}
 use Rattle.log_space.proofs.LogSpace.free.Goals as goal
 
-pub sum-requires-clause-fits : goal.sum-requires-clause-fits
-sum-requires-clause-fits c =
+-- one log more
+sum_more : (f : ℕ → ℕ) (n x y : ℕ) → x ≡ sum_logs f n → y ≡ f (n + 1) → x + y ≡ sum_logs f (n + 1)
+sum_more f n x y p q = rw add-one (ap₂ (λ (a b : ℕ). a + b) p (q ∙ ap f (add-one n)))
+
+pub loop-log-preserved : goal.loop-log-preserved
+loop-log-preserved c =
     let z = shape_in c.args.frame.now in
-    let one_to = YieldsList-one_to z.logs c.new.result c.new.ensures.start (search rules) c.new.ensures.exhausted in
-    fits_from_length _ _ 8 _ (at_most_from_yields_List (YieldsList-at c.map.ensures.source one_to) (omega (arith, length-range_with_len 1 z.logs))) c.map.ensures.closure (omega arith) (λ x r q k. search (rules, tests))
+    (sum_more (λ d. z.blocks d - used_in c.args.self.now d) c.loop-log.log c.loop-log.free c.from-free.result c.loop-log.invariant.0 (c.from-free.ensures ∙ c.free_on.ensures), omega (arith, c.loop-log.invariant.1))
 
 pub returns : goal.returns
 unfolding free_in
 returns c =
     let z = shape_in c.args.frame.now in
-    let f : ℕ → ℕ = λ d. z.blocks d - used_in c.args.self.now d in
-    let one_to = YieldsList-one_to z.logs c.new.result c.new.ensures.start (search rules) c.new.ensures.exhausted in
-    sum_from_yields_List c.map.result _ c.sum.ensures.ran (YieldsList-from_map _ f (YieldsList-at c.map.ensures.source one_to) c.map.ensures.closure (λ x r q k. search (rules, tests)))
-    ∙ sum_is f z.logs
+    c.loop-log.invariant.0 ∙ ap (sum_logs (λ d. z.blocks d - used_in c.args.self.now d)) (omega arith)
