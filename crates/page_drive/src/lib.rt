@@ -30,8 +30,8 @@ pub fn are_readable<R: Rack>(rack: &R, pages: u16) -> bool
     (0..pages).all(|page| read_block(rack, 0, page + 1).is_some())
 }
 
-// Writes bytes as marks over others, from a place on, each with the stamp of a drive's own byte. By the index and in place:
-// of marks that an iterator lends nothing is known after the loop, and an array of marks would be made to be copied.
+// Writes bytes as marks over others, from a place on, each with the stamp of a drive's own byte. In place, by the index: the
+// library's `map` would make an array of marks, to be copied then.
 fn fill(marks: &mut [Mark], at: usize, bytes: &[u8])
     requires { at + length bytes.now ≤ length marks.old }
     ensures { marks.new ≡ pasted marks.old at (map drive_mark bytes.now) }
