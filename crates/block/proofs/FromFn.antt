@@ -5,10 +5,10 @@ use Rattle.std.specs.Option.{unwrap_or}
 use Rattle.std.specs.Slice.{IsGetRangeResult}
 use Rattle.std.specs.Borrow.{Bor}
 use Rattle.std.proofs.lemmas.Bool.{cases_eq}
-use Rattle.std.proofs.lemmas.List.{drop_all, ext_get_or, get_or-map, length-map}
+use Rattle.std.proofs.lemmas.List.{drop_all}
 use Rattle.std.proofs.lemmas.List.FromFn.{fill_by_all}
 use Rattle.std.proofs.lemmas.Slice.{between_to_end}
-use Rattle.std.specs.Array.{IsFromFnResultFrom, IsFromFnResult, IsMapOf}
+use Rattle.std.specs.Array.{IsFromFnResultFrom, IsFromFnResult}
 use denote.Param.Members.{Mut, Called}
 
 -- what holds before each call still holds behind it, and then each call makes at its place what is asked there
@@ -39,10 +39,3 @@ from_fn_each g f P ys n makes made k d h =
 pub rest_is : (b : List ℕ) (i : ℕ) (r : Option (Bor (List ℕ))) (e : Bor (List ℕ)) → e.now ≡ [] → IsGetRangeResult b i (length b) r → (unwrap_or r e).now ≡ drop i b
 rest_is b i (Some x) e empty h = h.0.2 ∙ between_to_end b i (length b) (omega arith)
 rest_is b i None e empty h = empty ∙ sym (drop_all i b (⊎_elim (λ l. omega arith) (λ l. omega arith) h.0))
-
--- an array that a closure makes of another, element by element
-pub mapped : {F A B : Type 0} (g : Mut F (A × Unit {0}) B) (h : A → B) (f : F) (xs : List A) (ys : List B) (n : ℕ) → A → B → length xs ≡ n → ((p : F) (x : A) (y : B) (q : F) → Called g p (x, tt) y q → y ≡ h x) → IsMapOf g f xs ys n → ys ≡ map h xs
-mapped g h f xs ys n d e l gives made =
-    ext_get_or e ys (map h xs) (made.long ∙ sym l ∙ sym (length-map xs h)) (λ k b.
-    let c = made.at k d e (omega (arith, made.long)) in
-    gives c.0 _ _ c.1 c.2 ∙ sym (get_or-map h xs k d e (omega (arith, made.long, l))))

@@ -1,5 +1,5 @@
 -- Pages put one after another into the marks.
-use Rattle.std.proofs.Common.{◌≡◌, ℕ, suc, ◌+◌, ◌*◌, List, [], ◌++◌, map, length, Some, None, Option, sym, refl, ap, ◌∙◌, ap₂, zero-add, add-one, arith}
+use Rattle.std.proofs.Common.{◌≡◌, ℕ, suc, ◌+◌, ◌*◌, List, [], ◌++◌, map, length, Some, Option, sym, refl, ap, ◌∙◌, ap₂, zero-add, add-one, arith}
 use lib.Seq.{paste}
 use Rattle.std.proofs.lemmas.List.{length-map, length-append, append-nil, drop_all}
 use Rattle.std.proofs.lemmas.List.Edits.{paste_none, paste_all, paste-paste}
@@ -16,9 +16,6 @@ page_put d at o b content e f = ap (pasted d at) (ap (map drive_mark) f ∙ ap p
 
 pub page_whole : (o : Option Block) (b content : Block) → Some b ≡ o → content ≡ page_content b → length content ≡ 240 → length (page_marks o) ≡ 240
 page_whole o b content e f l = ap length (ap page_marks (sym e) ∙ ap (map drive_mark) (sym f)) ∙ length-map content drive_mark ∙ l
-
-pub page_left : (d : List Mark) (at : ℕ) (o : Option Block) → None ≡ o → d ≡ pasted d at (page_marks o)
-page_left d at o e = paste_none d at [] ∙ ap (λ (x : Option Block). pasted d at (page_marks x)) e
 
 -- so far the first p pages are read
 pub record SoFar (d : List Mark) (m : Meaning) (p : ℕ) (ks : List Mark) : Type 0 where
