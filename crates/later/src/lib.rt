@@ -62,7 +62,7 @@ impl Ranked for Mark {
 }
 
 // Keeps in one place of the slice the later of what is there and the new value. A place past the end changes
-// nothing. Commit numbers and marks rank by the library's order of their types.
+// nothing.
 #[tactic(auto, using(crate::proofs::Derived::numbers_kept, crate::proofs::Derived::marks_kept))]
 pub fn keep_later<T: Ranked + Copy>(kept: &mut [T], at: usize, new: T)
     ensures after { kept.new ≡ kept_later T.upto kept.old at new }
@@ -84,9 +84,9 @@ pub struct Place {
 }
 
 // Where a byte of a page comes from. Stamps of different kinds rank in the order of the kinds here, and stamps of
-// one kind by their fields, the first in which they differ: that is the derived order. The fields of a kind stand in the
-// kind itself: in a struct of their own they would make a mark, of which a caller lends one for each page byte, a quarter
-// larger.
+// one kind by their fields, the first in which they differ: that is the derived order. The fields of the third kind stand
+// in the kind itself: in a struct of their own they would make a mark, of which a caller lends one for each page byte, a
+// quarter larger.
 #[derive(Clone, Copy, Debug, PartialEq, Eq, PartialOrd, Ord)]
 pub enum Stamp {
     // the drive's own byte

@@ -19,17 +19,19 @@ pub enum Answer {
     Unknown,
 }
 
+// The capital hexadecimal digits.
+const DIGITS: [u8; 16] = *b"0123456789ABCDEF";
+
 // A capital hexadecimal digit.
 fn digit(d: u8) -> char
     requires { d < 16 }
     ensures { result ≡ digit_glyph true d }
 {
-    char::from_digit(u32::from(d), 16)
-        .unwrap_or_default()
-        .to_ascii_uppercase()
+    char::from(DIGITS[usize::from(d)])
 }
 
-// Two digits for each byte. By characters: `{:02X}` takes half as long again, and a block has 512 bytes.
+// Two digits for each byte. By characters: `{:02X}` takes more than half as many instructions again, and a block has 512
+// bytes.
 fn write_hex<W: fmt::Write>(bytes: &[u8], f: &mut fmt::Formatter<W>) -> fmt::Result
     ensures { WritesOnOk W.write_str_gives f.old result (hex_text bytes.now) f.new }
 {
