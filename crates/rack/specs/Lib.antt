@@ -1,4 +1,5 @@
 pub mod Meaning
 pub mod Cut
 pub mod Answers
+pub mod Sizes
 pub mod Shapes

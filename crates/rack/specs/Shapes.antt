@@ -3,7 +3,7 @@
 --   LegalShape sizes      these sizes can be had: at most 10 drives, of at most 65,535 blocks each
 --   drives_in s           how many drives the shape s has
 --   size_in s d           how many blocks its drive d has
---   HoldsSizes sizes s    the shape s has drives of these sizes, drive 0 first
+--   HoldsSizes sizes s    the shape s has drives of these sizes, drive 0 first, and nothing behind them
 --   before a d            how many blocks the drives before d have, in the array a of sizes
 --   total_in s            how many blocks all drives have
 --   size_answer s d       the answer to the question for the blocks of drive d
@@ -12,6 +12,7 @@ use Rattle.std.specs.Prelude.{◌≡◌, ℕ, ◌+◌, ◌≤◌, min, cond, ◌
 use Rattle.rack.specs.declared.RackFault.{RackFault}
 use Rattle.rack.specs.declared.RackFault.TheVariants.{NoPlace}
 use Rattle.rack.specs.declared.shape.Shape.{Shape}
+use Rattle.rack.specs.Sizes.{Padded}
 
 pub record LegalShape (sizes : List ℕ) : Type 0 where
   pub few : length sizes ≤ 10
@@ -26,6 +27,7 @@ size_in s d = slice_index s.sizes d
 pub record HoldsSizes (sizes : List ℕ) (s : Shape) : Type 0 where
   pub count : drives_in s ≡ length sizes
   pub size : (d : ℕ) → size_in s d ≡ slice_index sizes d
+  pub padded : Padded s.sizes s.count
 
 abbrev pub before : List ℕ → ℕ → ℕ
 before a d = sum (take d a)

@@ -10,9 +10,9 @@ use crate::RackFault;
 const MOST_DRIVES: usize = 10;
 
 // At most 10 drives, of at most 65,535 blocks each; the sizes of drives that are not there are 0. The sizes are an array
-// with their count beside it, since there is no heap and a shape is `Copy` to callers. A count above 10 is read as 10 and
-// not ruled out: a struct that lies beside a `&mut`, as a rack's shape does, can have no ghost field, and a struct with a
-// model would not be copied with what holds it.
+// with their count beside it, since there is no heap and a shape is `Copy` to callers. Each shape is one that `new` made, and
+// its contract says so much of it. The type does not, and a count above 10 is read as 10: with a ghost field a caller's
+// `Option` or `Result` of a shape beside a `&mut` is not covered by the check, and with a model what holds a shape is not copied.
 #[derive(Clone, Copy, Debug)]
 pub struct Shape {
     sizes: [u16; MOST_DRIVES],
@@ -30,6 +30,7 @@ fn blocks_in(sizes: &[u16]) -> usize
 
 impl Shape {
     // A shape of these sizes, drive 0 first; refused where there are more than 10 or one is over 65,535.
+    #[tactic(auto, using(crate::proofs::Padding::padded_more, crate::proofs::Padding::padded_front, crate::proofs::Padding::padded_is, crate::proofs::Padding::padded_each))]
     pub fn new(sizes: &[u32]) -> Result<Shape, RackFault>
         ensures { MatchResult result (λ s. LegalShape sizes.now × HoldsSizes sizes.now s) (λ f. (LegalShape sizes.now → ⊥) × (f ≡ BadShape)) }
     {
