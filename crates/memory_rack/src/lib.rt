@@ -22,8 +22,8 @@ use std::marker::Model;
 const BLOCK: usize = 512;
 
 // The memory fits the shape: 512 bytes and one mark for each block. The caller lends bytes and marks apart, since all
-// memory is the caller's; a model and no ghost field says that they fit, since a struct with a `&mut` can have no ghost
-// field.
+// memory is the caller's; a model says that they fit, and not a ghost field, so that contracts speak of what the rack keeps
+// and name no field.
 #[derive(Drop)]
 pub struct MemoryRack<'a> {
     shape: Shape,
